@@ -1,0 +1,9 @@
+-- `float::F32::is_sign_positive` meets its contract: it is the other test's answer turned. Assumes nothing.
+use borrow.Author.Needs.{needs}
+use mathlib.Core.Path.{ap}
+use mathlib.Core.Bool.{not}
+use Rattle.float.proofs.F32.is_sign_positive.Statement.{statement}
+use Rattle.float.proofs.F32.is_sign_positive.Tie as tie
+
+pub is-sign-positive-spec : {M : Type 1} → statement M
+is-sign-positive-spec = tie.close (tie.spec (λ c κs. search needs) (λ c. ap not (c .is-sign-negative .ensures)))

@@ -1,0 +1,10 @@
+-- `float::cast::from_i32` meets its contract, which is its callee's, of an integer that the machine reads back from its bits. Assumes nothing.
+use borrow.Author.Needs.{needs}
+use mathlib.Core.Path.{ap, _∙_}
+use lib.Ieee.{binary32, ofInt}
+use mir.Facts.{toZ-ofZ}
+use Rattle.float.proofs.cast.from_i32.Statement.{statement}
+use Rattle.float.proofs.cast.from_i32.Tie as tie
+
+pub from-i32-spec : {M : Type 1} → statement M
+from-i32-spec = tie.close (tie.spec (λ c κs. search needs) (λ c. c .nearest-i32-to-f32 .ensures ∙ ap (ofInt binary32) (toZ-ofZ (c .before .fits .n))))

@@ -1,0 +1,41 @@
+-- Which words are read as the one NaN of `lib.Ieee` and which as its infinities, and what is written for the NaN. Assumes nothing.
+use Prim.Native.Nat.{ℕ, zero, suc, _+_, _*_}
+use native.Mathlib.Omega.{arith}
+use mathlib.Core.Path.{_≡_, refl, sym, subst, _∙_}
+use mathlib.Core.Bool.{Bool, true, false, not, _&&_}
+use borrow.Author.Tests.{eq-eqb, not-false}
+use lib.Dec.{T, eqb}
+use lib.Ieee.{Format, Float, nan, inf, fin, emax, ones, isNan, nanBits, ofFields, ofBits, toBits}
+use lib.Ieee.Bits.{nanBits-is}
+use Rattle.format.specs.Fields.{negative, exponent, fraction, nanWord}
+
+only-nan : (x : Float) → isNan x ≡ true → x ≡ nan
+unfolding isNan
+only-nan nan e = refl
+only-nan (inf s) e = absurd (subst T (sym e) tt)
+only-nan (fin s m k) e = absurd (subst T (sym e) tt)
+
+pub nan-read : (f : Format) (w : ℕ) → nanBits f w ≡ true → ofBits f w ≡ nan
+nan-read f w e = only-nan (ofBits f w) (sym (nanBits-is f w) ∙ e)
+
+pub nan-written : (f : Format) → toBits f nan ≡ nanWord f
+unfolding toBits
+nan-written f = refl
+
+never-zero : (e : ℕ) → 0 ≡ 2 * e + 1 → ⊥
+never-zero e h = omega arith
+
+at-ones : (f : Format) (s : Bool) (x t : ℕ) → x ≡ ones f → eqb t 0 ≡ true → ofFields f s x t ≡ inf s
+unfolding ofFields
+at-ones f s zero t e z = absurd (never-zero (emax f) e)
+at-ones f s (suc x) t e z = rw (eq-eqb (suc x) (ones f) e, z)
+
+no-digits : (a b : Bool) → a ≡ true → (a && not b) ≡ false → b ≡ true
+no-digits a b p q = not-false b (rw p at q)
+
+-- a word whose exponent field is all ones is an infinity unless it is a NaN
+pub inf-read : (f : Format) (w : ℕ) → exponent f w ≡ ones f → nanBits f w ≡ false → ofBits f w ≡ inf (negative f w)
+unfolding ofBits nanBits
+inf-read f w e n =
+    at-ones f (negative f w) (exponent f w) (fraction f w) e
+    (no-digits (eqb (exponent f w) (ones f)) (eqb (fraction f w) 0) (eq-eqb (exponent f w) (ones f) e) n)

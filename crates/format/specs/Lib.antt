@@ -1,0 +1,5 @@
+-- The definitions that the crates above cite, all over the formats of `lib.Ieee`.
+pub mod Fields
+pub mod Sign
+pub mod Exponent
+pub mod Value
