@@ -24,6 +24,8 @@ use Rattle.float.proofs.cast.from_i32.Reads as from-i32
 use Rattle.float.proofs.cast.from_u32.Reads as from-u32
 use Rattle.float.proofs.cast.bits_of_i32.Reads as bits-of-i32
 use Rattle.float.proofs.cast.i32_of_bits.Reads as i32-of-bits
+use Rattle.float.proofs.raw.operands.Reads as operands
+use Rattle.float.proofs.raw.answer.Reads as answer
 use Rattle.float.proofs.wrap.sum.Reads as sum
 use Rattle.float.proofs.wrap.difference.Reads as difference
 use Rattle.float.proofs.wrap.product.Reads as product
@@ -31,9 +33,95 @@ use Rattle.float.proofs.wrap.shl.Reads as shl
 use Rattle.float.proofs.wrap.shr.Reads as shr
 
 module _ (κs : Lfts 0) where
-  -- ---- the number type and its conversions
+  -- ---- the number type and its two conversions
   pub F32-from-bits : OneAnswer (from-bits.Post κs) (λ r x. r .0)
   F32-from-bits = pinned _ (λ a r x p. p)
 
   pub F32-to-bits : OneAnswer (to-bits.Post κs) (λ r x. r)
   F32-to-bits = pinned _ (λ a r x p. p)
+
+  pub F32-value : OneAnswer (value.Post κs) (λ r x. r)
+  F32-value = pinned _ (λ a r x p. p)
+
+  pub F32-of : OneAnswer (of.Post κs) (λ r x. r .0)
+  F32-of = pinned _ (λ a r x p. p)
+
+  -- ---- the helpers
+  pub F32-is-nan : OneAnswer (is-nan.Post κs) (λ r x. r)
+  F32-is-nan = pinned _ (λ a r x p. p)
+
+  pub F32-is-sign-negative : OneAnswer (is-sign-negative.Post κs) (λ r x. r)
+  F32-is-sign-negative = pinned _ (λ a r x p. p)
+
+  pub F32-is-sign-positive : OneAnswer (is-sign-positive.Post κs) (λ r x. r)
+  F32-is-sign-positive = pinned _ (λ a r x p. p)
+
+  pub F32-without-sign : OneAnswer (without-sign.Post κs) (λ r x. r .0)
+  F32-without-sign = pinned _ (λ a r x p. p)
+
+  pub F32-extract-exponent-bits : OneAnswer (extract-exponent-bits.Post κs) (λ r x. r)
+  F32-extract-exponent-bits = pinned _ (λ a r x p. p)
+
+  pub F32-extract-exponent-value : OneAnswer (extract-exponent-value.Post κs) (λ r x. r)
+  F32-extract-exponent-value = pinned _ (λ a r x p. p)
+
+  pub F32-exponent-clamped : OneAnswer (exponent-clamped.Post κs) (λ r x. r)
+  F32-exponent-clamped = pinned _ (λ a r x p. p)
+
+  pub F32-set-exponent : OneAnswer (set-exponent.Post κs) (λ r x. r .0)
+  F32-set-exponent = pinned _ (λ a r x p. p)
+
+  pub F32-is-integer : OneAnswer (is-integer.Post κs) (λ r x. r)
+  F32-is-integer = pinned _ (λ a r x p. p)
+
+  pub F32-is-even : OneAnswer (is-even.Post κs) (λ r x. r)
+  F32-is-even = pinned _ (λ a r x p. p)
+
+  -- ---- the casts
+  pub F32-to-i32 : OneAnswer (to-i32.Post κs) (λ r x. r)
+  F32-to-i32 = pinned _ (λ a r x p. p)
+
+  pub cast-from-i32 : OneAnswer (from-i32.Post κs) (λ r x. r)
+  cast-from-i32 = pinned _ (λ a r x p. p)
+
+  pub cast-from-u32 : OneAnswer (from-u32.Post κs) (λ r x. r)
+  cast-from-u32 = pinned _ (λ a r x p. p)
+
+  pub cast-bits-of-i32 : OneAnswer (bits-of-i32.Post κs) (λ r x. r)
+  cast-bits-of-i32 = pinned _ (λ a r x p. p)
+
+  pub cast-i32-of-bits : OneAnswer (i32-of-bits.Post κs) (λ r x. r)
+  cast-i32-of-bits = pinned _ (λ a r x p. p)
+
+  -- ---- arithmetic on words
+  pub wrap-sum : OneAnswer (sum.Post κs) (λ r x. r)
+  wrap-sum = pinned _ (λ a r x p. p)
+
+  pub wrap-difference : OneAnswer (difference.Post κs) (λ r x. r)
+  wrap-difference = pinned _ (λ a r x p. p)
+
+  pub wrap-product : OneAnswer (product.Post κs) (λ r x. r)
+  wrap-product = pinned _ (λ a r x p. p)
+
+  pub wrap-shl : OneAnswer (shl.Post κs) (λ r x. r)
+  wrap-shl = pinned _ (λ a r x p. p)
+
+  pub wrap-shr : OneAnswer (shr.Post κs) (λ r x. r)
+  wrap-shr = pinned _ (λ a r x p. p)
+
+  -- ---- the kernels
+  pub F32-abs : OneAnswer (abs.Post κs) (λ r x. r .0)
+  F32-abs = pinned _ (λ a r x p. p .0)
+
+  pub F32-copysign : OneAnswer (copysign.Post κs) (λ r x. r .0)
+  F32-copysign = pinned _ (λ a r x p. p .0)
+
+  pub F32-signum : OneAnswer (signum.Post κs) (λ r x. r .0)
+  F32-signum = pinned _ (λ a r x p. p)
+
+  -- ---- the kernels by number
+  pub raw-operands : OneAnswer (operands.Post κs) (λ r x. r)
+  raw-operands = pinned _ (λ a r x p. p)
+
+  pub raw-answer : OneAnswer (answer.Post κs) (λ r x. r)
+  raw-answer = pinned _ (λ a r x p. p)

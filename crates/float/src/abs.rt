@@ -3,7 +3,6 @@ ghost use mathlib.Core.Path.{_≡_};
 ghost use mathlib.Core.Bool.{false};
 ghost use lib.Ieee.{binary32};
 ghost use Rattle.format.specs.Sign.{absWord, SignSet};
-
 use crate::F32;
 
 impl F32 {

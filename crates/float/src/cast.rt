@@ -5,7 +5,6 @@ ghost use lib.IntN.{pos};
 ghost use lib.Ieee.{binary32, ofBits, ofInt, toSigned};
 ghost use mir.Val.{ofZ, toZ};
 ghost use mir.Syntax.{w32};
-
 use crate::F32;
 
 // The weight of a normal number's leading digit, which its word leaves out.

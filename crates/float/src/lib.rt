@@ -12,6 +12,7 @@ ghost use Rattle.format.specs.Exponent.{exponentValue, setExponentWord, isInteg
 pub mod abs;
 pub mod cast;
 pub mod copysign;
+pub mod raw;
 pub mod signum;
 pub mod wrap;
 
@@ -20,23 +21,35 @@ pub struct F32(pub u32);
 
 impl F32 {
     pub const ZERO: F32 = F32(0x0000_0000);
+
     pub const ONE: F32 = F32(0x3f80_0000);
     // The distance from 1 to the next number above it.
     pub const EPSILON: F32 = F32(0x3400_0000);
+
     pub const NAN: F32 = F32(0x7fc0_0000);
+
     pub const INFINITY: F32 = F32(0x7f80_0000);
 
     pub const FRAC_1_PI: F32 = F32(0x3ea2_f983);
+
     pub const LN_2: F32 = F32(0x3f31_7218);
+
     pub const LOG2_E: F32 = F32(0x3fb8_aa3b);
+
     pub const E: F32 = F32(0x402d_f854);
+
     pub const PI: F32 = F32(0x4049_0fdb);
+
     pub const FRAC_PI_2: F32 = F32(0x3fc9_0fdb);
 
     pub const SIGN_MASK: u32 = 0x8000_0000;
+
     pub const EXPONENT_MASK: u32 = 0x7f80_0000;
+
     pub const MANTISSA_MASK: u32 = 0x007f_ffff;
+
     pub const EXPONENT_BIAS: u32 = 127;
+
     pub const MANTISSA_BITS: u32 = 23;
 
     pub fn from_bits(bits: u32) -> F32

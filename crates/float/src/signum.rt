@@ -2,7 +2,6 @@
 ghost use mathlib.Core.Path.{_≡_};
 ghost use lib.Ieee.{binary32};
 ghost use Rattle.format.specs.Sign.{signumWord};
-
 use crate::F32;
 
 impl F32 {

@@ -1,0 +1,7 @@
+-- Any two answers that a statement of this crate allows coincide: an entry for every exported call. Assumes nothing.
+use contract.Lifetimes.{Lfts}
+use Rattle.format.proofs.Pinned.{OneAnswer, pinned}
+use Rattle.dampmeadow.proofs.dampmeadow_words.Reads as words
+
+pub dampmeadow-words : (κs : Lfts 0) → OneAnswer (words.Post κs) (λ r x. r)
+dampmeadow-words κs = pinned _ (λ a r x p. p)

@@ -1,0 +1,2 @@
+-- What the exported calls answer.
+pub mod Words

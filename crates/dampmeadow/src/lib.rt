@@ -1,0 +1,31 @@
+// The exported calls, for C and Rust.
+ghost use mathlib.Core.Path.{_≡_};
+ghost use Rattle.dampmeadow.specs.Words.{wordsOf};
+
+// What a frame with this operation and these two words answers: the refusal number in the high 32
+// bits and the word in the low 32. An operation that is not there is refused with 6, and a second
+// word that the operation does not use and that is not zero with 7.
+#[no_mangle]
+pub extern "C" fn dampmeadow_words(op: u32, a: u32, b: u32) -> u64
+    ensures { λ r. ⌜ r ≡ wordsOf op a b ⌝ }
+{
+    if op < 0x80 {
+        return NO_SUCH_OPERATION;
+    }
+    let number = op - 0x80;
+    let operands = float::raw::operands(number);
+    if operands == 0 {
+        return NO_SUCH_OPERATION;
+    }
+    if operands == 1 {
+        if b != 0 {
+            return MALFORMED;
+        }
+    }
+    float::raw::answer(number, a, b) as u64
+}
+
+// Refusals 6 and 7, each with the zero word.
+const NO_SUCH_OPERATION: u64 = 0x6_0000_0000;
+
+const MALFORMED: u64 = 0x7_0000_0000;

@@ -1,0 +1,21 @@
+-- `float::raw::answer` meets its contract: each arm is one entry of the list of kernels. Assumes nothing.
+use borrow.Author.Needs.{needs}
+use mathlib.Core.Path.{sym, ap, _∙_}
+use Rattle.float.specs.Raw.{Kernel, rawOf}
+use Rattle.float.proofs.Numbers.{unlisted}
+use Rattle.float.proofs.raw.answer.Statement.{statement}
+use Rattle.float.proofs.raw.answer.Tie as tie
+
+pub answer-spec : {M : Type 1} → statement M
+answer-spec =
+    tie.close
+    (tie.spec
+    (λ c κs. search needs)
+    (λ c κs. search needs)
+    (λ c κs. search needs)
+    (λ c. c .abs .ensures .0 ∙ rw (c .before .match .keys1))
+    (λ c. c .copysign .ensures .0 ∙ rw (c .before .match .keys2))
+    (λ c. c .signum .ensures ∙ rw (c .before .match .keys3))
+    (λ c.
+    let a = c .before .args in
+    sym (ap (λ (k : Kernel). rawOf k (a .a) (a .b)) (unlisted (a .number) (c .match .rest .0 .0 .1) (c .match .rest .0 .1) (c .match .rest .1)))))

@@ -1,0 +1,16 @@
+-- `float::raw::operands` meets its contract: each arm is one entry of the list of kernels. Assumes nothing.
+use borrow.Author.Needs.{needs}
+use mathlib.Core.Path.{sym, ap}
+use Rattle.float.specs.Raw.{operandsOf}
+use Rattle.float.proofs.Numbers.{unlisted}
+use Rattle.float.proofs.raw.operands.Statement.{statement}
+use Rattle.float.proofs.raw.operands.Tie as tie
+
+pub operands-spec : {M : Type 1} → statement M
+operands-spec =
+    tie.close
+    (tie.spec
+    (λ c. search needs)
+    (λ c. search needs)
+    (λ c. search needs)
+    (λ c. sym (ap operandsOf (unlisted (c .before .args .number) (c .match .rest .0 .0 .1) (c .match .rest .0 .1) (c .match .rest .1)))))

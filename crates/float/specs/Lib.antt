@@ -1,0 +1,2 @@
+-- The definitions of this crate's own; those over the formats are in `format`.
+pub mod Raw

@@ -1,0 +1,40 @@
+-- Every raw kernel under document 01's number for it, and what it does with two words. Definitions only.
+use Prim.Native.Nat.{ℕ}
+use mathlib.Core.List.{List, [], _∷_}
+use lib.ListN.{getD}
+use lib.Ieee.{binary32}
+use Rattle.format.specs.Sign.{absWord, copysignWord, signumWord}
+
+pub data Kernel : Type 0 where
+  none : Kernel
+  one : (ℕ → ℕ) → Kernel
+  two : (ℕ → ℕ → ℕ) → Kernel
+
+-- the kernels in order, from number 00; a number past the end has none either
+abbrev pub kernels : List Kernel
+kernels =
+    none
+    ∷ none
+    ∷ none
+    ∷ none
+    ∷ none
+    ∷ none
+    ∷ one (absWord binary32)
+    ∷ two (copysignWord binary32)
+    ∷ one (signumWord binary32)
+    ∷ []
+
+abbrev pub kernelOf : ℕ → Kernel
+kernelOf n = getD kernels n none
+
+-- how many of the two words a kernel reads
+abbrev pub operandsOf : Kernel → ℕ
+operandsOf none = 0
+operandsOf (one f) = 1
+operandsOf (two f) = 2
+
+-- its answer; where there is no kernel, 0
+abbrev pub rawOf : Kernel → ℕ → ℕ → ℕ
+rawOf none a b = 0
+rawOf (one f) a b = f a
+rawOf (two f) a b = f a b

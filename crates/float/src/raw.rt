@@ -1,0 +1,29 @@
+// The raw kernels by document 01's number for each, without the 80 that marks a raw frame.
+ghost use mathlib.Core.Path.{_≡_};
+ghost use Rattle.float.specs.Raw.{kernelOf, operandsOf, rawOf};
+use crate::F32;
+
+// How many words the kernel reads: 1 or 2, and 0 where the number has no kernel.
+pub fn operands(number: u32) -> u32
+    ensures { λ r. ⌜ r ≡ operandsOf (kernelOf number) ⌝ }
+{
+    match number {
+        0x06 => 1,
+        0x07 => 2,
+        0x08 => 1,
+        _ => 0,
+    }
+}
+
+// The kernel's answer to two words, and 0 where the number has no kernel. A kernel of one operand
+// does not look at the second word.
+pub fn answer(number: u32, a: u32, b: u32) -> u32
+    ensures { λ r. ⌜ r ≡ rawOf (kernelOf number) a b ⌝ }
+{
+    match number {
+        0x06 => F32(a).abs().0,
+        0x07 => F32(a).copysign(F32(b)).0,
+        0x08 => F32(a).signum().0,
+        _ => 0,
+    }
+}
