@@ -1,0 +1,57 @@
+//! Runs micromath's kernels beside ours, word for word, and says how many words were tried and how many differ.
+
+mod kernels;
+mod sweep;
+mod words;
+
+use kernels::Kernel;
+use std::process::exit;
+
+struct Wanted {
+    every: bool,
+    only: Vec<u32>,
+}
+
+fn wanted() -> Result<Wanted, String> {
+    let mut wanted = Wanted { every: false, only: Vec::new() };
+    let mut args = std::env::args().skip(1);
+    while let Some(arg) = args.next() {
+        match arg.as_str() {
+            "--every" => wanted.every = true,
+            "--only" => {
+                for number in args.next().unwrap_or_default().split(',') {
+                    wanted.only.push(u32::from_str_radix(number, 16).map_err(|_| format!("{number:?} is no operation number"))?);
+                }
+            }
+            _ => return Err(format!("no such option: {arg}")),
+        }
+    }
+    Ok(wanted)
+}
+
+fn main() {
+    let wanted = wanted().unwrap_or_else(|why| {
+        eprintln!("compare: {why}");
+        exit(2)
+    });
+    let all = kernels::all();
+    if let Some(number) = wanted.only.iter().find(|n| !all.iter().any(|k| k.number == Some(**n))) {
+        eprintln!("compare: no kernel here has the number {number:02x}");
+        exit(2);
+    }
+    let chosen: Vec<&Kernel> = all.iter().filter(|k| wanted.only.is_empty() || k.number.is_some_and(|n| wanted.only.contains(&n))).collect();
+
+    let mut total = sweep::Count::default();
+    for kernel in &chosen {
+        let count = sweep::sweep(kernel, wanted.every);
+        println!("{}", sweep::line(&kernel.label(), &count));
+        total.add(&count);
+    }
+    if wanted.only.is_empty() {
+        let count = kernels::refusals();
+        println!("{}", sweep::line("refusals of the call by number", &count));
+        total.add(&count);
+    }
+    println!("{}", sweep::line("in all", &total));
+    exit(if total.differ == 0 { 0 } else { 1 });
+}

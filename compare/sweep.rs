@@ -1,0 +1,166 @@
+//! Going over the words, on every core, with a line of progress.
+
+use crate::kernels::{Kernel, Takes};
+use crate::words::{edges, Random};
+use std::io::{IsTerminal, Write};
+use std::sync::atomic::{AtomicU64, Ordering};
+use std::sync::Mutex;
+use std::time::{Duration, Instant};
+
+#[derive(Clone, Copy)]
+pub struct Difference {
+    pub a: u32,
+    pub b: Option<u32>,
+    pub theirs: u64,
+    pub ours: u64,
+}
+
+#[derive(Default, Clone, Copy)]
+pub struct Count {
+    pub tried: u64,
+    pub differ: u64,
+    pub first: Option<Difference>,
+}
+
+impl Count {
+    pub fn add(&mut self, other: &Count) {
+        self.tried += other.tried;
+        self.differ += other.differ;
+        self.first = self.first.or(other.first);
+    }
+}
+
+pub fn line(label: &str, count: &Count) -> String {
+    let mut line = format!("{label}: {} words tried, {} differ", count.tried, count.differ);
+    if let Some(d) = count.first {
+        let words = match d.b {
+            Some(b) => format!("{:08x} {:08x}", d.a, b),
+            None => format!("{:08x}", d.a),
+        };
+        line += &format!("; the first: {words} should be {:08x} and is {:08x}", d.theirs, d.ours);
+    }
+    line
+}
+
+/// What is tried, as numbered pairs of words: number `i` below `len` is tried as `at(i)`.
+struct Plan {
+    edges: Vec<u32>,
+    pairs: bool,
+    every: bool,
+    random: u64,
+    strides: u64,
+}
+
+const STRIDE: u32 = 65_521;
+
+impl Plan {
+    fn new(kernel: &Kernel, every: bool) -> Plan {
+        let pairs = kernel.takes == Takes::Two;
+        Plan {
+            edges: edges(),
+            pairs,
+            every: every && !pairs,
+            random: if every { 100_000_000 } else { 2_000_000 },
+            strides: u32::MAX as u64 / STRIDE as u64,
+        }
+    }
+
+    fn len(&self) -> u64 {
+        let n = self.edges.len() as u64;
+        match (self.every, self.pairs) {
+            (true, _) => 1 << 32,
+            (false, true) => n * n + self.random,
+            (false, false) => n + self.strides + self.random,
+        }
+    }
+
+    /// Tries the numbers from `from` to `to`.
+    fn run(&self, kernel: &Kernel, from: u64, to: u64, count: &mut Count) {
+        let n = self.edges.len() as u64;
+        let mut random = Random::new(from + 1);
+        for i in from..to {
+            let (a, b) = if self.every {
+                (i as u32, 0)
+            } else if self.pairs {
+                if i < n * n {
+                    (self.edges[(i / n) as usize], self.edges[(i % n) as usize])
+                } else {
+                    (random.word(), random.word())
+                }
+            } else if i < n {
+                (self.edges[i as usize], 0)
+            } else if i < n + self.strides {
+                ((i - n) as u32 * STRIDE, 0)
+            } else {
+                (random.word(), 0)
+            };
+            if !kernel.same(a, b) {
+                count.differ += 1;
+                count.first.get_or_insert_with(|| kernel.difference(a, b));
+            }
+        }
+        count.tried += to - from;
+    }
+}
+
+/// Tries a kernel on all cores. The first difference is that of the lowest number.
+pub fn sweep(kernel: &Kernel, every: bool) -> Count {
+    const BLOCK: u64 = 1 << 20;
+    let plan = Plan::new(kernel, every);
+    let len = plan.len();
+    let next = AtomicU64::new(0);
+    let done = AtomicU64::new(0);
+    let found: Mutex<Vec<(u64, Count)>> = Mutex::new(Vec::new());
+    let cores = std::thread::available_parallelism().map_or(1, |n| n.get());
+    std::thread::scope(|scope| {
+        for _ in 0..cores {
+            scope.spawn(|| loop {
+                let from = next.fetch_add(BLOCK, Ordering::Relaxed);
+                if from >= len {
+                    break;
+                }
+                let to = len.min(from + BLOCK);
+                let mut count = Count::default();
+                plan.run(kernel, from, to, &mut count);
+                found.lock().unwrap().push((from, count));
+                done.fetch_add(to - from, Ordering::Relaxed);
+            });
+        }
+        scope.spawn(|| progress(&kernel.label(), &done, len));
+    });
+    let mut blocks = found.into_inner().unwrap();
+    blocks.sort_unstable_by_key(|(from, _)| *from);
+    blocks.iter().fold(Count::default(), |mut sum, (_, count)| {
+        sum.add(count);
+        sum
+    })
+}
+
+/// A line that is written over on a terminal, and now and then a new one elsewhere; a run of a moment has none.
+fn progress(label: &str, done: &AtomicU64, len: u64) {
+    let terminal = std::io::stderr().is_terminal();
+    let pause = Duration::from_secs(if terminal { 1 } else { 15 });
+    let mut last = Instant::now();
+    let mut written = false;
+    loop {
+        std::thread::sleep(Duration::from_millis(20));
+        let now = done.load(Ordering::Relaxed);
+        if now >= len {
+            break;
+        }
+        if last.elapsed() >= pause {
+            last = Instant::now();
+            written = true;
+            let text = format!("{label}: {now} of {len}, {}%", now * 100 / len);
+            if terminal {
+                eprint!("\r{text}");
+                let _ = std::io::stderr().flush();
+            } else {
+                eprintln!("{text}");
+            }
+        }
+    }
+    if terminal && written {
+        eprint!("\r\x1b[K");
+    }
+}

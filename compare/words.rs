@@ -1,0 +1,36 @@
+//! The words that a short run tries: every exponent with the fractions at its edges, random words, and strides.
+
+/// A small generator of words (xorshift64*), so that a run can be repeated.
+pub struct Random(u64);
+
+impl Random {
+    pub fn new(seed: u64) -> Self {
+        Random(seed.wrapping_mul(0x9e37_79b9_7f4a_7c15) | 1)
+    }
+
+    pub fn word(&mut self) -> u32 {
+        self.0 ^= self.0 >> 12;
+        self.0 ^= self.0 << 25;
+        self.0 ^= self.0 >> 27;
+        (self.0.wrapping_mul(0x2545_f491_4f6c_dd1d) >> 32) as u32
+    }
+}
+
+/// Each sign and exponent field with the fractions 0, 1 and 2, those about the half, and the last two; then small whole
+/// numbers as words, and as powers in two's complement.
+pub fn edges() -> Vec<u32> {
+    let mut words = Vec::new();
+    for field in 0..=255u32 {
+        for fraction in [0, 1, 2, 0x3f_ffff, 0x40_0000, 0x40_0001, 0x7f_fffe, 0x7f_ffff] {
+            for sign in [0, 0x8000_0000] {
+                words.push(sign | field << 23 | fraction);
+            }
+        }
+    }
+    for n in 0..=300u32 {
+        words.extend([n, n.wrapping_neg(), (n as f32).to_bits(), (-(n as f32)).to_bits()]);
+    }
+    words.sort_unstable();
+    words.dedup();
+    words
+}

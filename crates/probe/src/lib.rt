@@ -1,0 +1,83 @@
+// Exported calls for the comparison alone: the casts and helpers of `float`, which the crate keeps
+// to itself and no frame reaches.
+ghost use mathlib.Core.Path.{_≡_};
+ghost use mathlib.Core.Bool.{Bool, cond};
+ghost use Prim.Native.Nat.{_+_, _%_, _^_};
+ghost use lib.IntN.{pos};
+ghost use lib.Ieee.{binary32, ofBits, toBits, ofInt, toSigned};
+ghost use mir.Val.{ofZ, toZ};
+ghost use mir.Syntax.{w32};
+ghost use Rattle.format.specs.Fields.{exponent, magnitude};
+ghost use Rattle.format.specs.Exponent.{exponentValue, setExponentWord, isIntegerWord, isEvenWord};
+use float::F32;
+
+#[no_mangle]
+pub extern "C" fn probe_to_i32(a: u32) -> i32
+    ensures { λ r. ⌜ r ≡ toSigned 31 (ofBits binary32 a) ⌝ }
+{
+    F32(a).to_i32()
+}
+
+#[no_mangle]
+pub extern "C" fn probe_from_i32(n: i32) -> u32
+    ensures { λ r. ⌜ r ≡ toBits binary32 (ofInt binary32 n) ⌝ }
+{
+    F32::of(float::cast::from_i32(n)).0
+}
+
+#[no_mangle]
+pub extern "C" fn probe_from_u32(n: u32) -> u32
+    ensures { λ r. ⌜ r ≡ toBits binary32 (ofInt binary32 (pos n)) ⌝ }
+{
+    F32::of(float::cast::from_u32(n)).0
+}
+
+// A float through the language's own type and back: every NaN becomes 7fc00000.
+#[no_mangle]
+pub extern "C" fn probe_value(a: u32) -> u32
+    ensures { λ r. ⌜ r ≡ toBits binary32 (ofBits binary32 a) ⌝ }
+{
+    F32::of(F32(a).value()).0
+}
+
+#[no_mangle]
+pub extern "C" fn probe_exponent_bits(a: u32) -> u32
+    ensures { λ r. ⌜ r ≡ exponent binary32 a ⌝ }
+{
+    F32(a).extract_exponent_bits()
+}
+
+#[no_mangle]
+pub extern "C" fn probe_exponent_value(a: u32) -> i32
+    ensures { λ r. ⌜ r ≡ exponentValue binary32 a ⌝ }
+{
+    F32(a).extract_exponent_value()
+}
+
+#[no_mangle]
+pub extern "C" fn probe_without_sign(a: u32) -> u32
+    ensures { λ r. ⌜ r ≡ magnitude binary32 a ⌝ }
+{
+    F32(a).without_sign().0
+}
+
+#[no_mangle]
+pub extern "C" fn probe_set_exponent(a: u32, n: i32) -> u32
+    ensures { λ r. ⌜ r ≡ setExponentWord binary32 a ((ofZ w32 n + 127) % 2 ^ 32) ⌝ }
+{
+    F32(a).set_exponent(n).0
+}
+
+#[no_mangle]
+pub extern "C" fn probe_is_integer(a: u32) -> bool
+    ensures { λ r. ⌜ r ≡ isIntegerWord binary32 a ⌝ }
+{
+    F32(a).is_integer()
+}
+
+#[no_mangle]
+pub extern "C" fn probe_is_even(a: u32) -> bool
+    ensures { λ r. ⌜ r ≡ isEvenWord binary32 a ⌝ }
+{
+    F32(a).is_even()
+}
