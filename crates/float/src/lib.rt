@@ -11,9 +11,14 @@ ghost use Rattle.format.specs.Exponent.{exponentValue, setExponentWord, isInteg
 
 pub mod abs;
 pub mod cast;
+pub mod ceil;
 pub mod copysign;
+pub mod floor;
+pub mod fract;
 pub mod raw;
+pub mod round;
 pub mod signum;
+pub mod trunc;
 pub mod wrap;
 
 // A number by its bits. Every word is one, each NaN pattern too.

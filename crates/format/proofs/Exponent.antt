@@ -4,7 +4,6 @@ use native.Mathlib.Nat.{mod-lt, mul-pos, lt-of-lt-of-le, add-assoc}
 use native.Mathlib.Omega.{arith}
 use mathlib.Core.Path.{_≡_, refl, sym, ap, _∙_}
 use mathlib.Core.Bool.{Bool, true, false, cond, _||_}
-use borrow.Author.Tests.{leb-true, leb-false}
 use lib.Dec.{lit<}
 use lib.Bits.{bitAnd, bitOr, and-mask, and-block, or-block, or-shifted-r}
 use lib.Pow.{pow-pos, pow-mono, ones-lt, split, mod-mod-pow}
@@ -12,16 +11,7 @@ use lib.Ieee.{Format, binary32, binary64, hid, ones, top}
 use Rattle.format.specs.Fields.{negative}
 use Rattle.format.specs.Exponent.{moved, setExponentWord}
 use Rattle.format.proofs.Fields.{top-pos}
-
--- a word's highest bit, which is all that stands at its weight and above
-abbrev bit : Bool → ℕ
-bit s = cond s 1 0
-
-high-bit : (f : Format) (w : ℕ) → w < 2 * top f → (s : Bool) → negative f w ≡ s → w / top f ≡ bit s
-high-bit binary32 w h true e = omega (arith, leb-true (top binary32) w e)
-high-bit binary32 w h false e = omega (arith, leb-false (top binary32) w e)
-high-bit binary64 w h true e = omega (arith, leb-true (top binary64) w e)
-high-bit binary64 w h false e = omega (arith, leb-false (top binary64) w e)
+use Rattle.format.proofs.Masks.{bit, high-bit}
 
 either-bit : (k : ℕ) (a b : Bool) → bitOr (bit a) (bit b) * k ≡ cond (a || b) (1 * k) (0 * k)
 either-bit k true true = refl

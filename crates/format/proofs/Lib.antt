@@ -6,4 +6,6 @@ pub mod Sign
 pub mod Value
 pub mod Cast
 pub mod Exponent
+pub mod Parts
+pub mod Whole
 pub mod Pinned

@@ -1,12 +1,15 @@
--- abs and copysign keep every bit but the sign's, so they are IEEE 754's operations of those names. Assumes nothing.
-use Prim.Native.Nat.{ℕ, zero, suc, _+_}
+-- abs and copysign keep every bit but the sign's, so they are IEEE 754's operations of those names, and a word with its sign turned is
+-- the negated number. Assumes nothing.
+use Prim.Native.Nat.{ℕ, zero, suc, _+_, _*_, _<_}
 use native.Mathlib.Nat.{zero-add}
+use native.Mathlib.Omega.{arith}
 use mathlib.Core.Path.{_≡_, refl, sym, ap, subst, _∙_}
-use mathlib.Core.Bool.{Bool, true, false, cond}
-use lib.Dec.{eqb}
-use lib.Ieee.{Format, Float, nan, inf, fin, prec, low, hid, ones, odd, ofFields, ofBits}
+use mathlib.Core.Bool.{Bool, true, false, not, cond}
+use lib.Dec.{T, eqb}
+use lib.Ieee.{Format, Float, nan, inf, fin, prec, low, hid, ones, top, odd, neg, fits, isNan, ofFields, ofBits, toBits}
+use lib.Ieee.Bits.{ofBits-toBits, toBits-ofBits}
 use Rattle.format.specs.Fields.{negative, magnitude, exponent, fraction, signBit}
-use Rattle.format.specs.Sign.{absWord, copysignWord, withSign, SignSet}
+use Rattle.format.specs.Sign.{absWord, copysignWord, turnedWord, withSign, SignSet}
 use Rattle.format.proofs.Fields.{magnitude-lt, sign-of, exponent-of, fraction-of, low-of-magnitude}
 
 odd-signed : (d : ℕ) (s t : Bool) (q k l : ℕ) → withSign s (odd d t q k l) ≡ odd d s q k l
@@ -47,3 +50,38 @@ abs-is f w = subst (SignSet f false w) (zero-add (magnitude f w)) (sign-set f fa
 
 pub copysign-is : (f : Format) (w y : ℕ) → SignSet f (negative f y) w (copysignWord f w y)
 copysign-is f w y = sign-set f (negative f y) w
+
+-- ---- the sign turned
+
+-- a word's value has the word's sign
+pub own-sign : (f : Format) (w : ℕ) → ofBits f w ≡ withSign (negative f w) (ofBits f w)
+own-sign f w = same-but-sign f w w refl refl
+
+neg-with : (s : Bool) (x : Float) → neg (withSign s x) ≡ withSign (not s) x
+unfolding neg
+neg-with s nan = refl
+neg-with s (inf t) = refl
+neg-with s (fin t m e) = refl
+
+pub turned-read : (f : Format) (w : ℕ) → ofBits f (turnedWord f w) ≡ neg (ofBits f w)
+turned-read f w = sign-set f (not (negative f w)) w .value ∙ sym (ap neg (own-sign f w) ∙ neg-with (negative f w) (ofBits f w))
+
+turned-lt : (f : Format) (w : ℕ) (s : Bool) → signBit f s + magnitude f w < 2 * top f
+turned-lt f w true = omega (arith, magnitude-lt f w)
+turned-lt f w false = omega (arith, magnitude-lt f w)
+
+neg-nan : (x : Float) → isNan (neg x) ≡ isNan x
+unfolding isNan neg
+neg-nan nan = refl
+neg-nan (inf t) = refl
+neg-nan (fin t m e) = refl
+
+-- the word of a negated number that is no NaN is its own word with the sign turned
+pub turned-written : (f : Format) (x : Float) → T (fits f x) → isNan x ≡ false → toBits f (neg x) ≡ turnedWord f (toBits f x)
+turned-written f x h n =
+    let w = toBits f x in
+    let same : ofBits f w ≡ x = ofBits-toBits f x h in
+    let read : ofBits f (turnedWord f w) ≡ neg x = turned-read f w ∙ ap neg same in
+    ap (toBits f) (sym read)
+    ∙ toBits-ofBits f (turnedWord f w) (turned-lt f w (not (negative f w)))
+    (subst (λ (b : Bool). T (not b)) (sym (ap isNan read ∙ neg-nan x ∙ n)) tt)

@@ -3,3 +3,6 @@ pub mod Fields
 pub mod Sign
 pub mod Exponent
 pub mod Value
+pub mod Parts
+pub mod Whole
+pub mod Meaning

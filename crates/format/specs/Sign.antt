@@ -1,7 +1,7 @@
 -- The sign kernels: IEEE 754's abs and copySign, which keep every other bit, a NaN's too, and signum, whose words are Rust's.
 use Prim.Native.Nat.{ℕ, _+_}
 use mathlib.Core.Path.{_≡_}
-use mathlib.Core.Bool.{Bool, cond}
+use mathlib.Core.Bool.{Bool, not, cond}
 use lib.Ieee.{Format, Float, nan, inf, fin, ofBits, nanBits}
 use Rattle.format.specs.Fields.{negative, magnitude, exponent, fraction, signBit, oneWord, nanWord}
 
@@ -10,6 +10,10 @@ absWord f w = magnitude f w
 
 abbrev pub copysignWord : Format → ℕ → ℕ → ℕ
 copysignWord f w y = signBit f (negative f y) + magnitude f w
+
+-- the sign bit turned
+abbrev pub turnedWord : Format → ℕ → ℕ
+turnedWord f w = signBit f (not (negative f w)) + magnitude f w
 
 -- 1 with the operand's sign bit, zeros too, and a NaN for a NaN
 abbrev pub signumWord : Format → ℕ → ℕ

@@ -1,0 +1,27 @@
+// The fraction part of a number, with the number's sign bit: the whole bits are dropped. For |x|
+// under 2^32 that is IEEE 754's meaning (`IsFract`); beyond, the shifts wrap.
+ghost use mathlib.Core.Path.{_≡_};
+ghost use Prim.Native.Nat.{_<_};
+ghost use lib.Ieee.{binary32};
+ghost use Rattle.format.specs.Fields.{exponent};
+ghost use Rattle.format.specs.Parts.{fractWord};
+use crate::F32;
+use crate::wrap;
+
+impl F32 {
+    pub fn fract(self) -> F32
+        ensures steps { λ r. ⌜ r .0 ≡ fractWord binary32 (self .0) ⌝ }
+    {
+        if self.extract_exponent_bits() < F32::EXPONENT_BIAS {
+            return self;
+        }
+        let below = wrap::shl(self.0, self.exponent_clamped()) & F32::MANTISSA_MASK;
+        if below == 0 {
+            return F32::ZERO.copysign(self);
+        }
+        // the leading digit comes up to its own place, and the exponent down by as many
+        let shift = u32::leading_zeros(below) - 8;
+        let digits = (below << shift) & F32::MANTISSA_MASK;
+        F32(((F32::EXPONENT_BIAS - shift) << F32::MANTISSA_BITS) + digits).copysign(self)
+    }
+}
