@@ -99,6 +99,11 @@ macro_rules! helper {
 
 pub fn all() -> Vec<Kernel> {
     vec![
+        raw!(0x81, "trunc", One, Nan, |a, _| f(a).trunc().to_bits()),
+        raw!(0x82, "fract", One, Nan, |a, _| f(a).fract().to_bits()),
+        raw!(0x83, "floor", One, Nan, |a, _| f(a).floor().to_bits()),
+        raw!(0x84, "ceil", One, Nan, |a, _| f(a).ceil().to_bits()),
+        raw!(0x85, "round", One, Nan, |a, _| f(a).round().to_bits()),
         raw!(0x86, "abs", One, Exact, |a, _| f(a).abs().to_bits()),
         raw!(0x87, "copysign", Two, Exact, |a, b| f(a).copysign(f(b)).to_bits()),
         raw!(0x88, "signum", One, Nan, |a, _| f(a).signum().to_bits()),

@@ -17,6 +17,11 @@ use Rattle.float.proofs.F32.set_exponent.Reads as set-exponent
 use Rattle.float.proofs.F32.is_integer.Reads as is-integer
 use Rattle.float.proofs.F32.is_even.Reads as is-even
 use Rattle.float.proofs.F32.to_i32.Reads as to-i32
+use Rattle.float.proofs.F32.trunc.Reads as trunc
+use Rattle.float.proofs.F32.fract.Reads as fract
+use Rattle.float.proofs.F32.floor.Reads as floor
+use Rattle.float.proofs.F32.ceil.Reads as ceil
+use Rattle.float.proofs.F32.round.Reads as round
 use Rattle.float.proofs.F32.abs.Reads as abs
 use Rattle.float.proofs.F32.copysign.Reads as copysign
 use Rattle.float.proofs.F32.signum.Reads as signum
@@ -110,6 +115,21 @@ module _ (κs : Lfts 0) where
   wrap-shr = pinned _ (λ a r x p. p)
 
   -- ---- the kernels
+  pub F32-trunc : OneAnswer (trunc.Post κs) (λ r x. r .0)
+  F32-trunc = pinned _ (λ a r x p. p)
+
+  pub F32-fract : OneAnswer (fract.Post κs) (λ r x. r .0)
+  F32-fract = pinned _ (λ a r x p. p)
+
+  pub F32-floor : OneAnswer (floor.Post κs) (λ r x. r .0)
+  F32-floor = pinned _ (λ a r x p. p)
+
+  pub F32-ceil : OneAnswer (ceil.Post κs) (λ r x. r .0)
+  F32-ceil = pinned _ (λ a r x p. p)
+
+  pub F32-round : OneAnswer (round.Post κs) (λ r x. r .0)
+  F32-round = pinned _ (λ a r x p. p)
+
   pub F32-abs : OneAnswer (abs.Post κs) (λ r x. r .0)
   F32-abs = pinned _ (λ a r x p. p .0)
 

@@ -4,6 +4,8 @@ use mathlib.Core.List.{List, [], _∷_}
 use lib.ListN.{getD}
 use lib.Ieee.{binary32}
 use Rattle.format.specs.Sign.{absWord, copysignWord, signumWord}
+use Rattle.format.specs.Parts.{truncWord, fractWord}
+use Rattle.format.specs.Whole.{floorWord, ceilWord, roundWord}
 
 pub data Kernel : Type 0 where
   none : Kernel
@@ -14,11 +16,11 @@ pub data Kernel : Type 0 where
 abbrev pub kernels : List Kernel
 kernels =
     none
-    ∷ none
-    ∷ none
-    ∷ none
-    ∷ none
-    ∷ none
+    ∷ one (truncWord binary32)
+    ∷ one (fractWord binary32)
+    ∷ one (floorWord binary32)
+    ∷ one (ceilWord binary32)
+    ∷ one (roundWord binary32)
     ∷ one (absWord binary32)
     ∷ two (copysignWord binary32)
     ∷ one (signumWord binary32)

@@ -8,6 +8,11 @@ pub fn operands(number: u32) -> u32
     ensures { λ r. ⌜ r ≡ operandsOf (kernelOf number) ⌝ }
 {
     match number {
+        0x01 => 1,
+        0x02 => 1,
+        0x03 => 1,
+        0x04 => 1,
+        0x05 => 1,
         0x06 => 1,
         0x07 => 2,
         0x08 => 1,
@@ -21,6 +26,11 @@ pub fn answer(number: u32, a: u32, b: u32) -> u32
     ensures { λ r. ⌜ r ≡ rawOf (kernelOf number) a b ⌝ }
 {
     match number {
+        0x01 => F32(a).trunc().0,
+        0x02 => F32(a).fract().0,
+        0x03 => F32(a).floor().0,
+        0x04 => F32(a).ceil().0,
+        0x05 => F32(a).round().0,
         0x06 => F32(a).abs().0,
         0x07 => F32(a).copysign(F32(b)).0,
         0x08 => F32(a).signum().0,
