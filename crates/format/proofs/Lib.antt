@@ -8,4 +8,5 @@ pub mod Cast
 pub mod Exponent
 pub mod Parts
 pub mod Whole
+pub mod PartsMeaning
 pub mod Pinned
