@@ -9,4 +9,5 @@ pub mod Exponent
 pub mod Parts
 pub mod Whole
 pub mod PartsMeaning
+pub mod FloorMeaning
 pub mod Pinned

@@ -26,7 +26,7 @@ parts-sum f w t r p q = rw (p .whole, q .rest) (div-add-mod' (units f w) (2 ^ lo
 -- ---- a number below 1
 
 -- 2 ^ prec f is what a significand is below
-full : (f : Format) (t : ℕ) → t < hid f → hid f + t < 2 ^ prec f
+pub full : (f : Format) (t : ℕ) → t < hid f → hid f + t < 2 ^ prec f
 full binary32 t h = omega arith
 full binary64 t h = omega arith
 
