@@ -7,3 +7,5 @@ pub mod Value
 pub mod Cast
 pub mod Exponent
 pub mod Pinned
+pub mod Ratio
+pub mod Inv

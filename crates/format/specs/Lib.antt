@@ -3,3 +3,4 @@ pub mod Fields
 pub mod Sign
 pub mod Exponent
 pub mod Value
+pub mod Estimates
