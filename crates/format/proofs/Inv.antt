@@ -13,7 +13,7 @@ use Rattle.format.specs.Fields.{width, infWord}
 use Rattle.format.specs.Value.{units, Finite}
 use Rattle.format.specs.Estimates.{invMagic, invWord, Invertible, InvBound, turned}
 use Rattle.format.proofs.Fields.{hid-pos}
-use Rattle.format.proofs.Ratio.{finite-below, twice, no-wrap, squares}
+use Rattle.format.proofs.Ratio.{finite-below, twice, no-wrap, either, squares}
 
 -- h is the leading digit's weight, and t and u, which make it up, stand after that digit
 module _ (h t u x v p q k : ℕ) (whole : t + u ≡ h) (a : 2 * x ≡ (h + t) * p) (b : 2 * v ≡ (h + u) * q) (c : 2 * k ≡ h * h * (p * q)) where
@@ -24,7 +24,7 @@ module _ (h t u x v p q k : ℕ) (whole : t + u ≡ h) (a : 2 * x ≡ (h + t) * 
   square = rw whole c
 
   ratio : (k ≤ x * v) × (8 * (x * v) ≤ 9 * k)
-  ratio = omega (arith, product, square), omega (arith, product, square, mul-le-mul-left (p * q) (squares t u))
+  ratio = (omega (arith, product, square), omega (arith, product, square, mul-le-mul-left (p * q) (squares t u)))
 
 -- the word taken from the magic number, h being the exponent field's weight and n the greatest field of an operand
 module _ (h n w : ℕ) (h-pos : 0 < h) (below : w ≤ n * h) where
@@ -110,12 +110,31 @@ module _ (t m : ℕ) (m-lt : m < t) where
   kept : (w : ℕ) → w ≤ m → taken-from w ≡ m - w
   kept w h = no-wrap (t + t) m w h (omega arith)
 
-  same : (w a b c d : ℕ) → turn w ≡ a → taken-from a ≡ b → taken-from w ≡ c → turn c ≡ d → b ≡ d → taken-from (turn w) ≡ turn (taken-from w)
-  same w a b c d p q r s e = ?
+  same : (w : ℕ) {a b c d : ℕ} → turn w ≡ a → taken-from a ≡ b → taken-from w ≡ c → turn c ≡ d → b ≡ d → taken-from (turn w) ≡ turn (taken-from w)
+  same w p q r s e = ap taken-from p ∙ q ∙ e ∙ sym (ap turn r ∙ s)
 
   turns : (w : ℕ) → w < t + t → taken-from (turn w) ≡ turn (taken-from w)
-  turns w l = ?
+  turns w l = go (either t w) (either w m) (either w (t + m))
+    where
+      go : (t ≤ w) ⊎ (w < t) → (w ≤ m) ⊎ (m < w) → (w ≤ t + m) ⊎ (t + m < w) → taken-from (turn w) ≡ turn (taken-from w)
+      go (inr h) (inl k) j = same w (up-from w h) (wrapped (w + t) (omega arith) (omega arith)) (kept w k) (up-from (m - w) (omega arith)) (omega arith)
+      go (inr h) (inr k) j = same w (up-from w h) (wrapped (w + t) (omega arith) (omega arith)) (wrapped w k (omega arith)) (down-from (t + t + m - w) (omega arith)) (omega arith)
+      go (inl h) k (inl j) = same w (down-from w h) (kept (w - t) (omega arith)) (wrapped w (omega arith) (omega arith)) (down-from (t + t + m - w) (omega arith)) (omega arith)
+      go (inl h) k (inr j) = same w (down-from w h) (wrapped (w - t) (omega arith) (omega arith)) (wrapped w (omega arith) (omega arith)) (up-from (t + t + m - w) (omega arith)) (omega arith)
 
 word-is : (f : Format) → 2 ^ width f ≡ top f + top f
 word-is binary32 = refl
 word-is binary64 = refl
+
+magic-below-top : (f : Format) → invMagic f < top f
+magic-below-top binary32 = lit< tt
+magic-below-top binary64 = lit< tt
+
+-- turning the operand's sign bit turns the answer's and no other
+pub inv-sign : (f : Format) (w : ℕ) → w < 2 * top f → invWord f (turned f w) ≡ turned f (invWord f w)
+inv-sign f w h = rw (word-is f) (turns (top f) (invMagic f) (magic-below-top f) w (omega arith))
+
+-- ---- 9/8 is reached, and so is 1
+
+pub inv-reaches : 8 * (units binary32 0x3fc0_0000 * units binary32 (invWord binary32 0x3fc0_0000)) ≡ 9 * (2 ^ 149 * 2 ^ 149)
+inv-reaches = refl
