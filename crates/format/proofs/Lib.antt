@@ -9,3 +9,4 @@ pub mod Exponent
 pub mod Pinned
 pub mod Ratio
 pub mod Inv
+pub mod Sqrt
