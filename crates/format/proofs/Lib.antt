@@ -10,3 +10,4 @@ pub mod Pinned
 pub mod Ratio
 pub mod Inv
 pub mod Sqrt
+pub mod Invsqrt
