@@ -7,7 +7,8 @@ pub mod Value
 pub mod Cast
 pub mod Exponent
 pub mod Pinned
-pub mod Ratio
+pub mod Order
+pub mod Normal
 pub mod Inv
 pub mod Sqrt
 pub mod Invsqrt
