@@ -27,7 +27,7 @@ module _ (h t u x v p q k : ℕ) (whole : t + u ≡ h) (ex : 2 * x ≡ (h + t) *
   square = rw whole ek
 
   ratio : (k ≤ x * v) × (8 * (x * v) ≤ 9 * k)
-  ratio = (omega (arith, product, square) , omega (arith, product, square, mul-le-mul-left (p * q) (squares t u)))
+  ratio = (omega (arith, product, square), omega (arith, product, square, mul-le-mul-left (p * q) (squares t u)))
 
 -- the word taken from the magic number, which is n + 1 fields, the least field that an operand has and the greatest
 module _ (h n w : ℕ) (h-pos : 0 < h) (below : w ≤ n * h) where

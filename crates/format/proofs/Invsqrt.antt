@@ -1,5 +1,5 @@
 -- invsqrt's answer, squared, times a positive normal operand lies from 0.932450 to 1.069107, so from 93/100 to 107/100. Assumes nothing.
-use Prim.Native.Nat.{ℕ, suc, _+_, _-_, _*_, _/_, _%_, _^_, _≤_, _<_}
+use Prim.Native.Nat.{ℕ, suc, _+_, _-_, _*_, _/_, _^_, _≤_, _<_}
 use native.Mathlib.Nat.{mul-le-mul, mul-le-mul-left, mul-le-mul-right, le-trans, add-sub-of-le}
 use native.Mathlib.Omega.{arith}
 use mathlib.Core.Path.{_≡_, refl, sym, ap, _∙_}
@@ -28,16 +28,16 @@ not-below-end : (a d b : ℕ) → b * b ≤ a * (2 * b + d) → (a + d) * (b * b
 not-below-end a d b h = omega (arith, mul-le-mul-left d h)
 
 abbrev Within : ℕ → ℕ → Type 0
-Within one y = (932450 * one ≤ 1000000 * y) × (1000000 * y ≤ 1069107 * one)
+Within z y = (932450 * z ≤ 1000000 * y) × (1000000 * y ≤ 1069107 * z)
 
 -- the significands, s the operand's and b the answer's, with their weights: p * p the operand's and q the answer's
-weighed : (one s b x v p q k u : ℕ) → x ≡ s * (p * p) → v ≡ b * q → p * q ≡ k → u ≡ one * (k * k) → Within one (s * (b * b)) → Within u (x * (v * v))
-weighed one s b x v p q k u ex ev ek eu c =
+weighed : (z s b x v p q k u : ℕ) → x ≡ s * (p * p) → v ≡ b * q → p * q ≡ k → u ≡ z * (k * k) → Within z (s * (b * b)) → Within u (x * (v * v))
+weighed z s b x v p q k u ex ev ek eu c =
     rw (ex, ev, eu, sym ek)
-    (omega (arith, mul-le-mul-left (p * q * (p * q)) (c .0)) , omega (arith, mul-le-mul-left (p * q * (p * q)) (c .1)))
+    (omega (arith, mul-le-mul-left (p * q * (p * q)) (c .0)), omega (arith, mul-le-mul-left (p * q * (p * q)) (c .1)))
 
 loose : (u y : ℕ) → Within u y → (93 * u ≤ 100 * y) × (100 * y ≤ 107 * u)
-loose u y (l , m) = (omega arith , omega arith)
+loose u y (l, m) = (omega arith, omega arith)
 
 -- ---- the significands, by where the operand's rest t lies
 
@@ -56,14 +56,14 @@ module _ (t q b : ℕ) (half : q ≡ t / 2) where
       let c : lead * (2 * b + q) ≤ 2 * (b * b) = omega (arith, mul-le-mul l l) in
       let a : lead * ((lead + edge) * (lead + edge)) ≤ (lead + 2 * q) * (b * b) = rw e at (not-below-start 2 lead q b c) in
       let g : (lead + 2 * q) * (b * b) ≤ (lead + t) * (b * b) = mul-le-mul-right (b * b) (omega arith) in
-      (omega (arith, a, g) , omega (arith, mean (lead + t) b (3 * lead + 2 * edge + 1) (omega arith)))
+      (omega (arith, a, g), omega (arith, mean (lead + t) b (3 * lead + 2 * edge + 1) (omega arith)))
 
   upper-field : lead ≤ t → (d : ℕ) → q + d ≡ edge → lead + d ≡ b → Within (2 ^ 71) (2 * t * (b * b))
   upper-field h d e k =
       let c : lead * lead ≤ q * (2 * lead + d) = mul-le-mul {n₁ = lead / 2} {m₁ = 2 * lead} (omega arith) (omega arith) in
       let a : edge * (lead * lead) ≤ q * (b * b) = rw (e, k) at (not-below-end q d lead c) in
       let g : 4 * q * (b * b) ≤ 2 * t * (b * b) = mul-le-mul-right (b * b) (omega arith) in
-      (omega (arith, a, g) , omega (arith, mean t b (2 * lead + 2 * edge + 1) (omega arith)))
+      (omega (arith, a, g), omega (arith, mean t b (2 * lead + 2 * edge + 1) (omega arith)))
 
   past-edge : t < 2 * lead → (d : ℕ) → edge + 1 * d ≡ q → b + d ≡ 2 * lead → Within (2 ^ 73) (2 * t * (b * b))
   past-edge h d e k =
@@ -71,9 +71,16 @@ module _ (t q b : ℕ) (half : q ≡ t / 2) where
       let c : edge * (2 * b + d) ≤ 1 * (b * b) = omega (arith, mul-le-mul l l) in
       let a : edge * (2 * lead * (2 * lead)) ≤ q * (b * b) = rw (e, k) at (not-below-start 1 edge d b c) in
       let g : 4 * q * (b * b) ≤ 2 * t * (b * b) = mul-le-mul-right (b * b) (omega arith) in
-      (omega (arith, a, g) , omega (arith, mean t b (4 * lead + 2 * edge + 1) (omega arith)))
+      (omega (arith, a, g), omega (arith, mean t b (4 * lead + 2 * edge + 1) (omega arith)))
 
 -- ---- the bound
+
+abbrev pub one : ℕ
+one = 2 ^ 149 * 2 ^ 149 * 2 ^ 149
+
+-- x * v², which would be one if the answer were exact
+abbrev pub product : ℕ → ℕ
+product w = units binary32 w * (units binary32 (invsqrtWord w) * units binary32 (invsqrtWord w))
 
 module _ (w : ℕ) (n : Normal binary32 w) where
   abbrev j : ℕ
@@ -100,26 +107,26 @@ module _ (w : ℕ) (n : Normal binary32 w) where
   pub invsqrt-finite : Finite binary32 (invsqrtWord w)
   invsqrt-finite = finite-below binary32 (invsqrtWord w) answer-below
 
-  -- k is the two exponents together, and r the answer's fraction
-  from : (k one s r : ℕ) → 126 ≤ k → 2 ^ 149 * 2 ^ 149 * 2 ^ 149 ≡ one * (2 ^ k * 2 ^ k) → units binary32 w ≡ s * weight binary32 w
-      → invsqrtWord w ≡ suc (k - j) * lead + r → r < lead → Within one (s * ((lead + r) * (lead + r))) → InvsqrtTight w (invsqrtWord w)
-  from k one s r l u x a d c =
+  -- k is the exponents of the operand's root and of the answer together, and r the answer's fraction
+  from : (k z s r : ℕ) → 126 ≤ k → one ≡ z * (2 ^ k * 2 ^ k) → units binary32 w ≡ s * weight binary32 w
+      → invsqrtWord w ≡ suc (k - j) * lead + r → r < lead → Within z (s * ((lead + r) * (lead + r))) → InvsqrtTight w (invsqrtWord w)
+  from k z s r l u x a d c =
       let v = units-of binary32 (invsqrtWord w) (k - j) r answer-below a d in
       let e : 2 ^ j * 2 ^ (k - j) ≡ 2 ^ k = sym (pow-add 2 j (k - j)) ∙ ap (λ (i : ℕ). 2 ^ i) (add-sub-of-le (le-trans pairs-le l)) in
-      let b = weighed one s (lead + r) (units binary32 w) (units binary32 (invsqrtWord w)) (2 ^ j) (2 ^ (k - j)) (2 ^ k) (2 ^ 149 * 2 ^ 149 * 2 ^ 149) x v e u c in
+      let b = weighed z s (lead + r) (units binary32 w) (units binary32 (invsqrtWord w)) (2 ^ j) (2 ^ (k - j)) (2 ^ k) one x v e u c in
       record {
         least = b .0;
         most = b .1;
       }
 
   by-field : ByTwos binary32 w → (q ≤ edge) ⊎ (edge < q) → InvsqrtTight w (invsqrtWord w)
-  by-field (inl (h , x)) g =
+  by-field (inl (h, x)) g =
       from 188 (2 ^ 71) (lead + t) (edge - q) (lit≤ tt) refl x (omega (arith, answer, half-word, pairs-le)) (omega arith)
       (lower-field t q (lead + (edge - q)) refl h (omega arith))
-  by-field (inr (h , x)) (inl g) =
+  by-field (inr (h, x)) (inl g) =
       from 188 (2 ^ 71) (2 * t) (edge - q) (lit≤ tt) refl x (omega (arith, answer, half-word, pairs-le)) (omega arith)
       (upper-field t q (lead + (edge - q)) refl h (edge - q) (omega arith) refl)
-  by-field (inr (h , x)) (inr g) =
+  by-field (inr (h, x)) (inr g) =
       from 187 (2 ^ 73) (2 * t) (lead + edge - q) (lit≤ tt) refl x (omega (arith, answer, half-word, pairs-le)) (omega arith)
       (past-edge t q (lead + (lead + edge - q)) refl (rest-lt binary32 w) (q - edge) (omega arith) (omega (arith, rest-lt binary32 w)))
 
@@ -128,8 +135,15 @@ module _ (w : ℕ) (n : Normal binary32 w) where
 
   pub invsqrt-bound : InvsqrtBound w (invsqrtWord w)
   invsqrt-bound =
-      let b = loose (2 ^ 149 * 2 ^ 149 * 2 ^ 149) (units binary32 w * (units binary32 (invsqrtWord w) * units binary32 (invsqrtWord w))) (invsqrt-tight .least , invsqrt-tight .most) in
+      let b = loose one (product w) (invsqrt-tight .least, invsqrt-tight .most) in
       record {
         least = b .0;
         most = b .1;
       }
+
+-- to six places neither end could be better
+pub invsqrt-least : 1000000 * product 0x406e_b50c < 932451 * one
+invsqrt-least = lit< tt
+
+pub invsqrt-most : 1069106 * one < 1000000 * product 0x4024_e705
+invsqrt-most = lit< tt

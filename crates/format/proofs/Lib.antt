@@ -12,3 +12,4 @@ pub mod Normal
 pub mod Inv
 pub mod Sqrt
 pub mod Invsqrt
+pub mod AtLeastZero

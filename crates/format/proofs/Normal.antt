@@ -70,7 +70,7 @@ module _ (f : Format) (w : ℕ) (n : Normal f w) where
       go : (hid f ≤ rest f w) ⊎ (rest f w < hid f) → ByTwos f w
       go (inl h) =
           let e = units-of f w (suc (2 * pairs f w)) (rest f w - hid f) (n .below) (omega (arith, word-by-twos)) (omega (arith, rest-lt f w)) in
-          inr (h , e ∙ carried (hid f) (rest f w) (2 * pairs f w) (weight f w) h doubled)
+          inr (h, e ∙ carried (hid f) (rest f w) (2 * pairs f w) (weight f w) h doubled)
       go (inr h) =
           let e = units-of f w (2 * pairs f w) (rest f w) (n .below) word-by-twos h in
-          inl (le-of-lt h , e ∙ ap (λ (k : ℕ). (hid f + rest f w) * k) doubled)
+          inl (le-of-lt h, e ∙ ap (λ (k : ℕ). (hid f + rest f w) * k) doubled)

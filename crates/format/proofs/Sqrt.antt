@@ -1,9 +1,9 @@
 -- sqrt's answer, squared, lies from 1 - 1 / 2 ^ (prec f - 1) to 9/8 of a positive normal operand. Assumes nothing.
-use Prim.Native.Nat.{ℕ, suc, _+_, _-_, _*_, _/_, _%_, _^_, _≤_, _<_}
+use Prim.Native.Nat.{ℕ, suc, _+_, _-_, _*_, _/_, _^_, _≤_, _<_}
 use native.Mathlib.Nat.{mul-le-mul, mul-le-mul-left, mul-le-mul-right, mul-add-div, mod-eq-of-lt, le-of-lt}
 use native.Mathlib.Omega.{arith}
 use mathlib.Core.Path.{_≡_, refl, ap, _∙_}
-use mathlib.Core.Logic.{_⊎_, inl, inr}
+use mathlib.Core.Logic.{inl, inr}
 use borrow.Author.Tests.{le-leb}
 use lib.Dec.{lit<}
 use lib.Pow.{pow-add, suc-ones}
@@ -31,20 +31,20 @@ module _ (n h t q : ℕ) (next : suc n ≡ h) (half : q ≡ t / 2) where
   lower-field l =
       let a : t ≤ suc n = omega arith in
       let b : 2 * q * (2 * q) ≤ t * suc n = mul-le-mul twice-half (omega (arith, twice-half)) in
-      rw (← next) (omega (arith, near-half) , omega (arith, b, mul-le-mul-right (suc n) twice-half, mul-le-mul-right (suc n) a))
+      rw (← next) (omega (arith, near-half), omega (arith, b, mul-le-mul-right (suc n) twice-half, mul-le-mul-right (suc n) a))
 
   upper-field : h ≤ t → t < 2 * h → Squared n h (2 * t) (h + q)
   upper-field l k =
       let a : suc n ≤ t = omega arith in
       let b : t ≤ 4 * suc n = omega arith in
       let c = mul-le-mul twice-half twice-half in
-      rw (← next) (omega (arith, near-half, squares n q) , omega (arith, c, mul-le-mul-right (suc n) twice-half, rearranged a b))
+      rw (← next) (omega (arith, near-half, squares n q), omega (arith, c, mul-le-mul-right (suc n) twice-half, rearranged a b))
 
 -- with their weights: p * p the operand's, p * c the answer's, and c * c that of 1
 weighed : (n h s b x v k p c : ℕ) → x ≡ s * (p * p) → v ≡ b * (p * c) → k ≡ h * (c * c) → Squared n h s b
     → (x * n * k ≤ v * v * h) × (8 * (v * v) ≤ 9 * (x * k))
 weighed n h s b x v k p c ex ev ek r =
-    rw (ex, ev, ek) (omega (arith, mul-le-mul-left (p * p * (c * c) * h) (r .0)) , omega (arith, mul-le-mul-left (p * p * (c * c)) (r .1)))
+    rw (ex, ev, ek) (omega (arith, mul-le-mul-left (p * p * (c * c) * h) (r .0)), omega (arith, mul-le-mul-left (p * p * (c * c)) (r .1)))
 
 -- ---- the bound
 
@@ -99,9 +99,25 @@ module _ (f : Format) (w : ℕ) (n : Normal f w) where
           }
 
       by-field : ByTwos f w → SqrtBound f w (sqrtWord f w)
-      by-field (inl (h , x)) = from (hid f + rest f w) x (lower-field (hid f - 1) (hid f) (rest f w) (rest f w / 2) (suc-ones (prec f - 1)) refl h)
-      by-field (inr (h , x)) = from (2 * rest f w) x (upper-field (hid f - 1) (hid f) (rest f w) (rest f w / 2) (suc-ones (prec f - 1)) refl h (rest-lt f w))
+      by-field (inl (h, x)) = from (hid f + rest f w) x (lower-field (hid f - 1) (hid f) (rest f w) (rest f w / 2) (suc-ones (prec f - 1)) refl h)
+      by-field (inr (h, x)) = from (2 * rest f w) x (upper-field (hid f - 1) (hid f) (rest f w) (rest f w / 2) (suc-ones (prec f - 1)) refl h (rest-lt f w))
 
 -- 9/8 is reached, at 2
 pub sqrt-of-two : 8 * (units binary32 (sqrtWord binary32 0x4000_0000) * units binary32 (sqrtWord binary32 0x4000_0000)) ≡ 9 * (units binary32 0x4000_0000 * 2 ^ 149)
 sqrt-of-two = refl
+
+-- past the positive normal numbers, at binary32: +0, -0, the infinity, a number below 0 and a NaN
+pub sqrt-of-zero : sqrtWord binary32 0x0000_0000 ≡ 0x1fc0_0000
+sqrt-of-zero = refl
+
+pub sqrt-of-minus-zero : sqrtWord binary32 0x8000_0000 ≡ 0x5fc0_0000
+sqrt-of-minus-zero = refl
+
+pub sqrt-of-infinity : sqrtWord binary32 0x7f80_0000 ≡ 0x5f80_0000
+sqrt-of-infinity = refl
+
+pub sqrt-of-minus-one : sqrtWord binary32 0xbf80_0000 ≡ 0x7fc0_0000
+sqrt-of-minus-one = refl
+
+pub sqrt-of-nan : sqrtWord binary32 0x7f80_0001 ≡ 0x7fc0_0000
+sqrt-of-nan = refl

@@ -1,9 +1,9 @@
 -- What micromath's sqrt, inv and invsqrt answer, word by word, and how far each may lie from the true result. Definitions only.
--- A bound compares x and v, the units of the operand and of the answer (`units`, each a count of 2 ^ -(low f)), by whole numbers alone.
+-- A bound is about x, the operand as a number, and v, the answer as one. It is stated over their counts of units, of which 2 ^ low f make 1.
 use Prim.Native.Nat.{ℕ, _+_, _-_, _*_, _/_, _%_, _^_, _≤_, _<_}
 use mathlib.Core.Bool.{Bool, cond, _||_}
 use lib.Dec.{leb, eqb}
-use lib.Ieee.{Format, binary32, prec, emax, low, hid, ones, top}
+use lib.Ieee.{Format, binary32, prec, emax, low, hid, top}
 use Rattle.format.specs.Fields.{width, negative, oneWord, infWord, nanWord}
 use Rattle.format.specs.Value.{units}
 
