@@ -11,3 +11,9 @@ pub mod Whole
 pub mod PartsMeaning
 pub mod FloorMeaning
 pub mod Pinned
+pub mod Order
+pub mod Normal
+pub mod Inv
+pub mod Sqrt
+pub mod Invsqrt
+pub mod AtLeastZero

@@ -6,3 +6,4 @@ pub mod Value
 pub mod Parts
 pub mod Whole
 pub mod Meaning
+pub mod Estimates

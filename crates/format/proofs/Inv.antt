@@ -1,0 +1,152 @@
+-- inv's answer times its operand lies from 1 to 9/8, and turning the operand's sign turns the answer's and nothing else. Assumes nothing.
+use Prim.Native.Nat.{ℕ, _+_, _-_, _*_, _/_, _%_, _^_, _≤_, _<_}
+use native.Mathlib.Nat.{add-mul, mul-le-mul-left, mod-lt, mod-eq-of-lt, div-add-mod', div-mul-le-self, le-of-mul-le-mul-right, le-of-lt, le-trans, add-sub-of-le, sub-add-cancel, sub-le}
+use native.Mathlib.Omega.{arith}
+use mathlib.Core.Path.{_≡_, refl, sym, ap, _∙_}
+use mathlib.Core.Logic.{_⊎_, inl, inr}
+use mathlib.Core.Bool.{cond}
+use borrow.Author.Tests.{le-leb, lt-leb}
+use lib.Dec.{leb, lit<}
+use lib.Pow.{pow-add}
+use lib.Ieee.{Format, binary32, binary64, emax, low, hid, top}
+use Rattle.format.specs.Fields.{width, infWord}
+use Rattle.format.specs.Value.{units, Finite}
+use Rattle.format.specs.Estimates.{invMagic, invWord, turned, Normal, Invertible, InvBound}
+use Rattle.format.proofs.Fields.{hid-pos}
+use Rattle.format.proofs.Order.{either, squares, no-wrap}
+use Rattle.format.proofs.Normal.{normal-finite, twice-units}
+
+-- ---- over plain numbers
+
+-- h is the leading digit's weight, which t and u make up: one significand is h + t, and the other h + u
+module _ (h t u x v p q k : ℕ) (whole : t + u ≡ h) (ex : 2 * x ≡ (h + t) * p) (ev : 2 * v ≡ (h + u) * q) (ek : 2 * k ≡ h * h * (p * q)) where
+  product : 2 * x * (2 * v) ≡ (t + u + t) * p * ((t + u + u) * q)
+  product = rw whole (cc)
+
+  square : 2 * k ≡ (t + u) * (t + u) * (p * q)
+  square = rw whole ek
+
+  ratio : (k ≤ x * v) × (8 * (x * v) ≤ 9 * k)
+  ratio = (omega (arith, product, square), omega (arith, product, square, mul-le-mul-left (p * q) (squares t u)))
+
+-- the word taken from the magic number, which is n + 1 fields, the least field that an operand has and the greatest
+module _ (h n w : ℕ) (h-pos : 0 < h) (below : w ≤ n * h) where
+  field-le : w / h ≤ n
+  field-le = le-of-mul-le-mul-right (le-trans (div-mul-le-self w h) below) h-pos
+
+  taken : h + n * h - w ≡ (n - w / h) * h + (h - w % h)
+  taken =
+      let left : (n - w / h) * h + w / h * h ≡ n * h = sym (add-mul (n - w / h) (w / h) h) ∙ ap (λ (x : ℕ). x * h) (sub-add-cancel field-le) in
+      omega (arith, left, div-add-mod' w h, mod-lt w h-pos)
+
+-- ---- the bound
+
+-- an operand's field and its answer's add up to this, or to one more where both fractions are 0
+abbrev fields : Format → ℕ
+fields f = 2 * emax f - 1
+
+one-squared : (f : Format) → 2 * (2 ^ low f * 2 ^ low f) ≡ hid f * hid f * 2 ^ fields f
+one-squared binary32 = refl
+one-squared binary64 = refl
+
+magic-is : (f : Format) → invMagic f ≡ hid f + fields f * hid f
+magic-is binary32 = refl
+magic-is binary64 = refl
+
+magic-below : (f : Format) → invMagic f < infWord f
+magic-below binary32 = lit< tt
+magic-below binary64 = lit< tt
+
+magic-fits : (f : Format) → invMagic f < 2 ^ width f
+magic-fits binary32 = lit< tt
+magic-fits binary64 = lit< tt
+
+module _ (f : Format) (w : ℕ) (i : Invertible f w) where
+  answer : invWord f w ≡ hid f + fields f * hid f - w
+  answer = no-wrap (2 ^ width f) (invMagic f) w (omega (arith, magic-is f)) (magic-fits f) ∙ ap (λ (m : ℕ). m - w) (magic-is f)
+
+  pub invertible-normal : Normal f w
+  invertible-normal =
+      record {
+        above = i .above;
+        below = omega (arith, magic-is f, magic-below f);
+      }
+
+  pub inv-normal : Normal f (invWord f w)
+  inv-normal =
+      record {
+        above = omega (arith, answer);
+        below = omega (arith, answer, magic-is f, magic-below f);
+      }
+
+  pub inv-finite : Finite f (invWord f w)
+  inv-finite = normal-finite f (invWord f w) inv-normal
+
+  pub inv-bound : InvBound f w (invWord f w)
+  inv-bound =
+      let e = w / hid f in
+      let d = fields f - e in
+      let t = w % hid f in
+      let u = hid f - t in
+      let l : t ≤ hid f = le-of-lt (mod-lt w (hid-pos f)) in
+      let x = twice-units f w e t invertible-normal (sym (div-add-mod' w (hid f))) l in
+      let v = twice-units f (invWord f w) d u inv-normal (answer ∙ taken (hid f) (fields f) w (hid-pos f) (i .below)) (sub-le (hid f) t) in
+      let p : 2 ^ fields f ≡ 2 ^ e * 2 ^ d = ap (λ (j : ℕ). 2 ^ j) (sym (add-sub-of-le (field-le (hid f) (fields f) w (hid-pos f) (i .below)))) ∙ pow-add 2 e d in
+      let k = one-squared f ∙ ap (λ (j : ℕ). hid f * hid f * j) p in
+      let b = ratio (hid f) t u (units f w) (units f (invWord f w)) (2 ^ e) (2 ^ d) (2 ^ low f * 2 ^ low f) (add-sub-of-le l) x v k in
+      record {
+        least = b .0;
+        most = b .1;
+      }
+
+-- both ends are reached: 1 at 1, and 9/8 at 3/2
+pub inv-of-one : units binary32 0x3f80_0000 * units binary32 (invWord binary32 0x3f80_0000) ≡ 2 ^ 149 * 2 ^ 149
+inv-of-one = refl
+
+pub inv-of-three-halves : 8 * (units binary32 0x3fc0_0000 * units binary32 (invWord binary32 0x3fc0_0000)) ≡ 9 * (2 ^ 149 * 2 ^ 149)
+inv-of-three-halves = refl
+
+-- ---- the sign
+
+-- t is the sign bit's weight and m the magic number
+module _ (t m : ℕ) (m-lt : m < t) where
+  abbrev turn : ℕ → ℕ
+  turn w = cond (leb t w) (w - t) (w + t)
+
+  abbrev less : ℕ → ℕ
+  less w = (t + t + m - w) % (t + t)
+
+  up : (w : ℕ) → w < t → turn w ≡ w + t
+  up w h = rw (lt-leb t w h)
+
+  down : (w : ℕ) → t ≤ w → turn w ≡ w - t
+  down w h = rw (le-leb t w h)
+
+  wrapped : (w : ℕ) → m < w → w ≤ t + t → less w ≡ t + t + m - w
+  wrapped w h l = mod-eq-of-lt (omega arith)
+
+  kept : (w : ℕ) → w ≤ m → less w ≡ m - w
+  kept w h = no-wrap (t + t) m w h (omega arith)
+
+  both-ways : (w : ℕ) {a b c d : ℕ} → turn w ≡ a → less a ≡ b → less w ≡ c → turn c ≡ d → b ≡ d → less (turn w) ≡ turn (less w)
+  both-ways w p q r s e = ap less p ∙ q ∙ e ∙ sym (ap turn r ∙ s)
+
+  turns : (w : ℕ) → w < t + t → less (turn w) ≡ turn (less w)
+  turns w l = go (either t w) (either w m) (either w (t + m))
+    where
+      go : (t ≤ w) ⊎ (w < t) → (w ≤ m) ⊎ (m < w) → (w ≤ t + m) ⊎ (t + m < w) → less (turn w) ≡ turn (less w)
+      go (inr h) (inl k) j = both-ways w (up w h) (wrapped (w + t) (omega arith) (omega arith)) (kept w k) (up (m - w) (omega arith)) (omega arith)
+      go (inr h) (inr k) j = both-ways w (up w h) (wrapped (w + t) (omega arith) (omega arith)) (wrapped w k (omega arith)) (down (t + t + m - w) (omega arith)) (omega arith)
+      go (inl h) k (inl j) = both-ways w (down w h) (kept (w - t) (omega arith)) (wrapped w (omega arith) (omega arith)) (down (t + t + m - w) (omega arith)) (omega arith)
+      go (inl h) k (inr j) = both-ways w (down w h) (wrapped (w - t) (omega arith) (omega arith)) (wrapped w (omega arith) (omega arith)) (up (t + t + m - w) (omega arith)) (omega arith)
+
+word-is : (f : Format) → 2 ^ width f ≡ top f + top f
+word-is binary32 = refl
+word-is binary64 = refl
+
+magic-unsigned : (f : Format) → invMagic f < top f
+magic-unsigned binary32 = lit< tt
+magic-unsigned binary64 = lit< tt
+
+pub inv-sign : (f : Format) (w : ℕ) → w < 2 * top f → invWord f (turned f w) ≡ turned f (invWord f w)
+inv-sign f w h = rw (word-is f) (turns (top f) (invMagic f) (magic-unsigned f) w (omega arith))

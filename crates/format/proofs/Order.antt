@@ -1,0 +1,29 @@
+-- Orders between whole numbers that the bounds need: which of two is less, two laws on products, and a subtraction that need not wrap. Assumes nothing.
+use Prim.Native.Nat.{ℕ, _+_, _-_, _*_, _%_, _≤_, _<_}
+use native.Mathlib.Nat.{le-of-lt, le-dest, add-sub-assoc, add-mod-left, mod-eq-of-lt}
+use native.Mathlib.Omega.{arith}
+use mathlib.Core.Path.{_≡_, refl, sym}
+use mathlib.Core.Logic.{_⊎_, inl, inr}
+use mathlib.Core.Bool.{Bool, true, false}
+use borrow.Author.Tests.{leb-true, leb-false}
+use lib.Dec.{leb}
+
+pub either : (a b : ℕ) → (a ≤ b) ⊎ (b < a)
+either a b = by-test (leb a b) refl
+  where
+    by-test : (s : Bool) → leb a b ≡ s → (a ≤ b) ⊎ (b < a)
+    by-test true e = inl (leb-true a b e)
+    by-test false e = inr (leb-false a b e)
+
+pub rearranged : {a b c d : ℕ} → a ≤ b → c ≤ d → a * d + b * c ≤ a * c + b * d
+rearranged h k = rw (sym (le-dest h .1), sym (le-dest k .1)) (omega arith)
+
+pub squares : (a b : ℕ) → 2 * (a * b) ≤ a * a + b * b
+squares a b = ordered (either a b)
+  where
+    ordered : (a ≤ b) ⊎ (b < a) → 2 * (a * b) ≤ a * a + b * b
+    ordered (inl h) = omega (arith, rearranged h h)
+    ordered (inr h) = omega (arith, rearranged (le-of-lt h) (le-of-lt h))
+
+pub no-wrap : (n m w : ℕ) → w ≤ m → m < n → (n + m - w) % n ≡ m - w
+no-wrap n m w h l = rw (add-sub-assoc h n, add-mod-left) (mod-eq-of-lt (omega arith))
