@@ -1,4 +1,6 @@
 -- What belongs to no one function.
 mod Numbers
 mod Twos
+pub mod Squaring
+pub mod Products
 pub mod OneAnswer

@@ -12,6 +12,7 @@ ghost use Rattle.format.specs.Exponent.{exponentValue, setExponentWord, isInteg
 pub mod abs;
 pub mod cast;
 pub mod copysign;
+pub mod powi;
 pub mod raw;
 pub mod signum;
 pub mod wrap;
@@ -29,6 +30,8 @@ impl F32 {
     pub const NAN: F32 = F32(0x7fc0_0000);
 
     pub const INFINITY: F32 = F32(0x7f80_0000);
+
+    pub const NEG_INFINITY: F32 = F32(0xff80_0000);
 
     pub const FRAC_1_PI: F32 = F32(0x3ea2_f983);
 
