@@ -3,4 +3,6 @@ mod Leading
 mod Numbers
 mod Point
 mod Twos
+pub mod Squaring
+pub mod Products
 pub mod OneAnswer

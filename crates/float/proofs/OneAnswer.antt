@@ -24,6 +24,7 @@ use Rattle.float.proofs.F32.ceil.Reads as ceil
 use Rattle.float.proofs.F32.round.Reads as round
 use Rattle.float.proofs.F32.abs.Reads as abs
 use Rattle.float.proofs.F32.copysign.Reads as copysign
+use Rattle.float.proofs.F32.powi.Reads as powi
 use Rattle.float.proofs.F32.signum.Reads as signum
 use Rattle.float.proofs.cast.from_i32.Reads as from-i32
 use Rattle.float.proofs.cast.from_u32.Reads as from-u32
@@ -138,6 +139,9 @@ module _ (κs : Lfts 0) where
 
   pub F32-signum : OneAnswer (signum.Post κs) (λ r x. r .0)
   F32-signum = pinned _ (λ a r x p. p)
+
+  pub F32-powi : OneAnswer (powi.Post κs) (λ r x. r .0)
+  F32-powi = pinned _ (λ a r x p. p)
 
   -- ---- the kernels by number
   pub raw-operands : OneAnswer (operands.Post κs) (λ r x. r)

@@ -1,2 +1,3 @@
 -- The definitions of this crate's own; those over the formats are in `format`.
+pub mod Powi
 pub mod Raw

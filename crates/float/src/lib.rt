@@ -15,6 +15,7 @@ pub mod ceil;
 pub mod copysign;
 pub mod floor;
 pub mod fract;
+pub mod powi;
 pub mod raw;
 pub mod round;
 pub mod signum;
@@ -34,6 +35,8 @@ impl F32 {
     pub const NAN: F32 = F32(0x7fc0_0000);
 
     pub const INFINITY: F32 = F32(0x7f80_0000);
+
+    pub const NEG_INFINITY: F32 = F32(0xff80_0000);
 
     pub const FRAC_1_PI: F32 = F32(0x3ea2_f983);
 
