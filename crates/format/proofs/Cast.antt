@@ -21,7 +21,7 @@ use Rattle.format.proofs.Value.{word-value, whole-part}
 abbrev pub held : ℕ → Bool → ℕ → ℤ
 held h s n = cond s (negℤ (pos (min n (2 ^ h)))) (pos (min n (2 ^ h - 1)))
 
-value-cast : (h : ℕ) (x : Float) (s : Bool) (a c : ℕ) → 0 < c → HasValue x s a c → toSigned h x ≡ held h s (a / c)
+pub value-cast : (h : ℕ) (x : Float) (s : Bool) (a c : ℕ) → 0 < c → HasValue x s a c → toSigned h x ≡ held h s (a / c)
 unfolding toSigned
 value-cast h nan s a c p v = absurd v
 value-cast h (inf t) s a c p v = absurd v

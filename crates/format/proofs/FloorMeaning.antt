@@ -113,7 +113,7 @@ room-for-one f x t k cut = go (ltb x (emax f + (prec f - 1))) refl
 -- ---- through a 32-bit integer and back
 
 -- a whole number that the format holds with either sign
-abbrev Exact : ℕ → Type 0
+abbrev pub Exact : ℕ → Type 0
 Exact n = (s : Bool) → HasValue (round binary32 s n 1) s n 1
 
 int-pos : (n : ℕ) → ofInt binary32 (pos n) ≡ round binary32 false n 1
@@ -129,7 +129,7 @@ at-end : HasValue (ofInt binary32 (pos (2 ^ 31 - 1))) false (2 ^ 31) 1
 unfolding ofInt round
 at-end = (refl, refl)
 
-through-positive : (n : ℕ) → n ≤ 2 ^ 31 → Exact n → HasValue (ofInt binary32 (held 31 false n)) false n 1
+pub through-positive : (n : ℕ) → n ≤ 2 ^ 31 → Exact n → HasValue (ofInt binary32 (held 31 false n)) false n 1
 through-positive n h x = go (eq-or-lt-of-le h)
   where
     go : (n ≡ 2 ^ 31) ⊎ (n < 2 ^ 31) → HasValue (ofInt binary32 (held 31 false n)) false n 1
@@ -138,12 +138,12 @@ through-positive n h x = go (eq-or-lt-of-le h)
         subst (λ (v : Float). HasValue v false n 1)
         (sym (ap (λ (k : ℕ). ofInt binary32 (pos k)) (let e : min n (2 ^ 31 - 1) ≡ n = omega arith in e) ∙ int-pos n)) (x false)
 
-through-negative : (n : ℕ) → suc n ≤ 2 ^ 31 → Exact (suc n) → HasValue (ofInt binary32 (held 31 true (suc n))) true (suc n) 1
+pub through-negative : (n : ℕ) → suc n ≤ 2 ^ 31 → Exact (suc n) → HasValue (ofInt binary32 (held 31 true (suc n))) true (suc n) 1
 through-negative n h x =
     subst (λ (v : Float). HasValue v true (suc n) 1)
     (sym (ap (λ (k : ℕ). ofInt binary32 (negℤ (pos k))) (let e : min (suc n) (2 ^ 31) ≡ suc n = omega arith in e) ∙ int-neg n)) (x true)
 
-nothing-through : HasValue (ofInt binary32 (held 31 true 0)) false 0 1
+pub nothing-through : HasValue (ofInt binary32 (held 31 true 0)) false 0 1
 unfolding ofInt round
 nothing-through = (refl, refl)
 

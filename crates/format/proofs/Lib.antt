@@ -10,6 +10,7 @@ pub mod Parts
 pub mod Whole
 pub mod PartsMeaning
 pub mod FloorMeaning
+pub mod RoundMeaning
 pub mod Pinned
 pub mod Order
 pub mod Normal
