@@ -1,4 +1,5 @@
 -- What belongs to no one function.
+mod Both
 mod Leading
 mod Numbers
 mod Point

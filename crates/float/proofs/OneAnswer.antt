@@ -117,19 +117,19 @@ module _ (κs : Lfts 0) where
 
   -- ---- the kernels
   pub F32-trunc : OneAnswer (trunc.Post κs) (λ r x. r .0)
-  F32-trunc = pinned _ (λ a r x p. p)
+  F32-trunc = pinned _ (λ a r x p. p .0)
 
   pub F32-fract : OneAnswer (fract.Post κs) (λ r x. r .0)
-  F32-fract = pinned _ (λ a r x p. p)
+  F32-fract = pinned _ (λ a r x p. p .0)
 
   pub F32-floor : OneAnswer (floor.Post κs) (λ r x. r .0)
-  F32-floor = pinned _ (λ a r x p. p)
+  F32-floor = pinned _ (λ a r x p. p .0)
 
   pub F32-ceil : OneAnswer (ceil.Post κs) (λ r x. r .0)
-  F32-ceil = pinned _ (λ a r x p. p)
+  F32-ceil = pinned _ (λ a r x p. p .0)
 
   pub F32-round : OneAnswer (round.Post κs) (λ r x. r .0)
-  F32-round = pinned _ (λ a r x p. p)
+  F32-round = pinned _ (λ a r x p. p .0)
 
   pub F32-abs : OneAnswer (abs.Post κs) (λ r x. r .0)
   F32-abs = pinned _ (λ a r x p. p .0)

@@ -19,7 +19,7 @@ use Rattle.format.specs.Fields.{negative, magnitude, exponent, fraction,
 use Rattle.format.specs.Value.{unitsAt, units, Finite}
 use Rattle.format.specs.Sign.{turnedWord}
 use Rattle.format.specs.Whole.{throughInt, floorValue, floorWord, ceilWord}
-use Rattle.format.specs.Meaning.{NotAbove, IsFloor, IsCeil}
+use Rattle.format.specs.Meaning.{NotAbove, IsFloor, IsCeil, To31}
 use Rattle.format.proofs.Fields.{magnitude-lt, magnitude-of, fraction-lt, two-fields}
 use Rattle.format.proofs.Cast.{held, word-cast}
 use Rattle.format.proofs.PartsMeaning.{full}
@@ -246,10 +246,6 @@ module _ (x : Float) (d u : ℕ) (d-pos : 0 < d) where
           (λ cut. subst (λ (k : ℕ). suc k ≤ 2 ^ 24) e (room (subst (λ (k : ℕ). k * d < u) (sym e) cut)))
 
 -- ---- the laws
-
--- |x| to 2 ^ 31
-abbrev pub To31 : ℕ → Type 0
-To31 w = magnitude binary32 w ≤ 0x4f00_0000
 
 -- the largest magnitude is 2 ^ 31 units of 1
 at-most : (x t : ℕ) → t < 2 ^ 23 → x * 2 ^ 23 + t ≤ 0x4f00_0000 → unitsAt binary32 x t ≤ 2 ^ 31 * 2 ^ 149

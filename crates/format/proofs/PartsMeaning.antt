@@ -15,7 +15,7 @@ use lib.Ieee.Fits.{two}
 use Rattle.format.specs.Fields.{width, negative, magnitude, exponent, fraction, signBit}
 use Rattle.format.specs.Value.{unitsAt, units, Finite}
 use Rattle.format.specs.Parts.{places, belowPoint, truncWord, fractWord, written}
-use Rattle.format.specs.Meaning.{IsTrunc, IsFract}
+use Rattle.format.specs.Meaning.{IsTrunc, IsFract, Under32}
 use Rattle.format.proofs.Fields.{hid-pos, Made, made, three-fields, exponent-lt, fraction-lt}
 use Rattle.format.proofs.Parts.{moved-up, fraction-written}
 
@@ -253,3 +253,13 @@ fract-is f w h = go (ltb (exponent f w) (emax f)) refl
           sign = z .sign;
           rest = z .size-is ∙ ap (λ (n : ℕ). n * 2 ^ (emax f - 1)) (ap (λ (n : ℕ). n * 2 ^ places f w) (below-is f w h) ∙ ap (λ (c : ℕ). t % 2 ^ left f x * 2 ^ c) (place-is f w h)) ∙ sym (past-rest f x t (ltb-false _ _ e));
         }
+
+-- at binary32
+under32-width : (w : ℕ) → Under32 w → InWidth binary32 w
+under32-width w h = omega arith
+
+pub trunc-under32 : (w : ℕ) → w < 2 ^ 32 → Under32 w → IsTrunc binary32 w (truncWord binary32 w)
+trunc-under32 w l h = trunc-is binary32 w l (under32-width w h)
+
+pub fract-under32 : (w : ℕ) → Under32 w → IsFract binary32 w (fractWord binary32 w)
+fract-under32 w h = fract-is binary32 w (under32-width w h)

@@ -18,7 +18,7 @@ use Rattle.format.specs.Fields.{negative, magnitude, exponent, fraction}
 use Rattle.format.specs.Sign.{copysignWord}
 use Rattle.format.specs.Value.{unitsAt, units, Finite}
 use Rattle.format.specs.Whole.{halfWord, throughInt, roundWord}
-use Rattle.format.specs.Meaning.{IsRound}
+use Rattle.format.specs.Meaning.{IsRound, Under23}
 use Rattle.format.proofs.Cast.{held, value-cast}
 use Rattle.format.proofs.Fields.{fraction-lt, two-fields}
 use Rattle.format.proofs.FloorMeaning.{Exact, through-positive, through-negative, nothing-through}
@@ -199,13 +199,8 @@ few-wholes x t h k = div-lt-iff-lt-mul (pow-pos 149) .1 (lt-of-lt-of-le (add-lt-
 
 -- ---- the law
 
--- |x| under 2 ^ 23, and not the magnitude next below a half
-pub record To23 (w : ℕ) : Type 0 where
-  pub under : magnitude binary32 w < 0x4b00_0000
-  pub clear : magnitude binary32 w ≡ 0x3eff_ffff → ⊥
-
-to23-field : (w : ℕ) → To23 w → exponent binary32 w ≤ 149
-to23-field w g = omega (arith, g .under)
+field-le : (w : ℕ) → Under23 w → exponent binary32 w ≤ 149
+field-le w g = omega (arith, g .under)
 
 -- what the cast there and back makes of a sign and a whole number
 record Back (x : Float) (s : Bool) (m : ℕ) : Type 0 where
@@ -236,7 +231,7 @@ half-value w =
 near : (u d h m : ℕ) → d ≡ 2 * h → 0 < h → m * d ≤ u + h → u + h < m * d + d → (2 * (m * d - u) ≤ d) × (2 * (u - m * d) + 1 ≤ d)
 near u d h m e p lo hi = omega arith
 
-pub round-is-nearest : (w : ℕ) → To23 w → IsRound binary32 w (roundWord binary32 w)
+pub round-is-nearest : (w : ℕ) → Under23 w → IsRound binary32 w (roundWord binary32 w)
 round-is-nearest w g =
     let x = exponent binary32 w in
     let t = fraction binary32 w in
@@ -244,7 +239,7 @@ round-is-nearest w g =
     let u = units binary32 w in
     let d = 2 ^ 149 in
     let t-lt : t < 2 ^ 23 = fraction-lt binary32 w in
-    let x-le = to23-field w g in
+    let x-le = field-le w g in
     let m = (u + 2 ^ 148) / d in
     let rounded = sum-rounded s x t x-le t-lt (λ e. g .clear (sym (two-fields binary32 w) ∙ e)) in
     let sum-is : summed w ≡ round binary32 s (u + 2 ^ 148) d = add-values binary32 (ofBits binary32 w) _ s u (2 ^ 148) d (pow-pos 149) (word-value binary32 w (lt-of-le-of-lt x-le (lit< tt))) (half-value w) in

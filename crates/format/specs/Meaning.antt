@@ -1,10 +1,10 @@
 -- What IEEE 754 means by the whole and fraction parts, floor, ceil and round, over whole numbers. A finite word is its sign and a
 -- count of units of 2 ^ -(low f); 2 ^ low f units are 1. Definitions only.
-use Prim.Native.Nat.{ℕ, _+_, _-_, _*_, _/_, _%_, _^_, _≤_}
+use Prim.Native.Nat.{ℕ, _+_, _-_, _*_, _/_, _%_, _^_, _≤_, _<_}
 use mathlib.Core.Path.{_≡_}
 use mathlib.Core.Bool.{Bool, true, false}
-use lib.Ieee.{Format, low}
-use Rattle.format.specs.Fields.{negative}
+use lib.Ieee.{Format, binary32, low}
+use Rattle.format.specs.Fields.{negative, magnitude}
 use Rattle.format.specs.Value.{units, Finite}
 
 -- r is w without its fraction, with w's sign bit
@@ -51,3 +51,18 @@ pub record IsRound (f : Format) (w r : ℕ) : Type 0 where
   pub near-above : 2 * (units f r - units f w) ≤ 2 ^ low f
   pub near-below : 2 * (units f w - units f r) + 1 ≤ 2 ^ low f
   pub zero : units f r ≡ 0 → negative f r ≡ false
+
+-- ---- the operands of binary32 for which the kernels have these meanings, by document 01's gates
+
+-- |x| under 2 ^ 32: trunc and fract
+abbrev pub Under32 : ℕ → Type 0
+Under32 w = magnitude binary32 w < 0x4f80_0000
+
+-- |x| to 2 ^ 31: floor and ceil
+abbrev pub To31 : ℕ → Type 0
+To31 w = magnitude binary32 w ≤ 0x4f00_0000
+
+-- |x| under 2 ^ 23, and not the magnitude next below a half: round
+pub record Under23 (w : ℕ) : Type 0 where
+  pub under : magnitude binary32 w < 0x4b00_0000
+  pub clear : magnitude binary32 w ≡ 0x3eff_ffff → ⊥

@@ -5,6 +5,9 @@ use mathlib.Core.Bool.{Bool, cond}
 use lib.Ieee.{Float, binary32, lt, sub, ofBits, toBits, ofInt}
 use mir.Facts.{toZ-ofZ}
 use Rattle.format.specs.Whole.{throughInt}
+use Rattle.format.specs.Meaning.{IsFloor}
+use Rattle.format.proofs.FloorMeaning.{floor-is}
+use Rattle.float.proofs.Both.{both}
 use Rattle.float.proofs.F32.floor.Statement.{statement}
 use Rattle.float.proofs.F32.floor.Tie as tie
 
@@ -30,12 +33,17 @@ floor-spec =
     (λ c κs. search needs)
     (λ c κs. search needs)
     (λ c.
-    let x = ofBits binary32 (c .before .before .before .before .before .before .args .self .0) in
-    c .of .ensures
+    let w = c .before .before .before .before .before .before .args .self .0 in
+    let x = ofBits binary32 w in
+    both (IsFloor binary32 w)
+    (c .of .ensures
     ∙ ap (λ (y : Float). toBits binary32 (sub binary32 y (c .before .value2 .result))) (whole-is (c .before .before .before .before))
     ∙ ap (λ (y : Float). toBits binary32 (sub binary32 (throughInt binary32 x) y)) (c .before .value2 .ensures)
     ∙ picked x _ (sym (test-is (c .before .before .before)) ∙ c .before .before .if1 .taken))
+    (floor-is w))
     (λ c κs. search needs)
     (λ c.
-    let x = ofBits binary32 (c .before .before .before .before .before .args .self .0) in
-    c .of2 .ensures ∙ ap (toBits binary32) (whole-is (c .before .before .before)) ∙ picked x _ (sym (test-is (c .before .before)) ∙ c .before .if1 .left)))
+    let w = c .before .before .before .before .before .args .self .0 in
+    both (IsFloor binary32 w)
+    (c .of2 .ensures ∙ ap (toBits binary32) (whole-is (c .before .before .before)) ∙ picked (ofBits binary32 w) _ (sym (test-is (c .before .before)) ∙ c .before .if1 .left))
+    (floor-is w)))

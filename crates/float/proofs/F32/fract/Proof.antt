@@ -14,6 +14,9 @@ use Rattle.format.specs.Parts.{places, belowPoint, written, fractWord}
 use Rattle.format.proofs.Parts.{moved-up}
 use Rattle.float.proofs.Leading.{Lead, lead, rebuilt}
 use Rattle.float.proofs.Point.{masked}
+use Rattle.format.specs.Meaning.{IsFract}
+use Rattle.format.proofs.PartsMeaning.{fract-under32}
+use Rattle.float.proofs.Both.{both}
 use Rattle.float.proofs.F32.fract.Statement.{statement}
 use Rattle.float.proofs.F32.fract.Tie as tie
 
@@ -50,16 +53,20 @@ fract-spec =
     (λ c κs. search needs)
     (λ c.
     let w = c .before .before .args .self .0 in
-    sym (rw (lt-ltb (exponent binary32 w) 127 (subst (λ (x : ℕ). x < 127) (c .before .extract-exponent-bits .ensures) (c .if1 .taken)))))
+    both (IsFract binary32 w)
+    (sym (rw (lt-ltb (exponent binary32 w) 127 (subst (λ (x : ℕ). x < 127) (c .before .extract-exponent-bits .ensures) (c .if1 .taken)))))
+    (fract-under32 w))
     (λ c κs. search needs)
     (λ c κs. search needs)
     (λ c κs. search needs)
     (λ c.
     let w = c .before .before .before .before .before .before .args .self .0 in
     let s = signBit binary32 (negative binary32 w) in
-    c .copysign .ensures .0
+    both (IsFract binary32 w)
+    (c .copysign .ensures .0
     ∙ ap (λ (n : ℕ). s + n) (sym nothing-written)
     ∙ past w _ 0 (c .before .before .before .before .before .extract-exponent-bits .ensures) (c .before .before .before .before .if1 .left) (sym (c .before .if2 .taken) ∙ below (c .before .before)))
+    (fract-under32 w))
     (λ c. led c .enough)
     (λ c. omega (arith, led c .most))
     (λ c. omega (arith, led c .most))
@@ -68,6 +75,8 @@ fract-spec =
     (λ c.
     let w = c .before .before .before .before .before .before .args .self .0 in
     let s = signBit binary32 (negative binary32 w) in
-    c .copysign2 .ensures .0
+    both (IsFract binary32 w)
+    (c .copysign2 .ensures .0
     ∙ ap (λ (n : ℕ). s + n) (mod-eq-of-lt (led (c .before) .small) ∙ led (c .before) .is)
-    ∙ past w _ _ (c .before .before .before .before .before .extract-exponent-bits .ensures) (c .before .before .before .before .if1 .left) (below (c .before .before))))
+    ∙ past w _ _ (c .before .before .before .before .before .extract-exponent-bits .ensures) (c .before .before .before .before .if1 .left) (below (c .before .before)))
+    (fract-under32 w)))

@@ -7,6 +7,9 @@ use lib.Ieee.Bits.{ofBits-toBits}
 use lib.Ieee.Fits.{add-fits}
 use mir.Facts.{toZ-ofZ}
 use Rattle.format.specs.Sign.{copysignWord}
+use Rattle.format.specs.Meaning.{IsRound}
+use Rattle.format.proofs.RoundMeaning.{round-is-nearest}
+use Rattle.float.proofs.Both.{both}
 use Rattle.float.proofs.F32.round.Statement.{statement}
 use Rattle.float.proofs.F32.round.Tie as tie
 
@@ -33,7 +36,9 @@ round-spec =
     (λ c κs. search needs)
     (λ c κs. search needs)
     (λ c.
-    c .of2 .ensures
+    both (IsRound binary32 (c .before .before .before .before .before .before .before .args .self .0))
+    (c .of2 .ensures
     ∙ ap (toBits binary32)
     (c .before .from-i32 .ensures
-    ∙ ap (ofInt binary32) (toZ-ofZ (record { sfits = c .before .before .to-i32 .ok }) ∙ c .before .before .to-i32 .ensures ∙ ap (toSigned 31) (sum-is (c .before .before .before))))))
+    ∙ ap (ofInt binary32) (toZ-ofZ (record { sfits = c .before .before .to-i32 .ok }) ∙ c .before .before .to-i32 .ensures ∙ ap (toSigned 31) (sum-is (c .before .before .before)))))
+    (round-is-nearest _)))

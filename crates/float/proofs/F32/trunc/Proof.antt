@@ -9,6 +9,9 @@ use Rattle.format.specs.Fields.{exponent, negative, signBit}
 use Rattle.format.specs.Parts.{places, belowPoint}
 use Rattle.format.proofs.Parts.{back-down}
 use Rattle.float.proofs.Point.{masked}
+use Rattle.format.specs.Meaning.{IsTrunc}
+use Rattle.format.proofs.PartsMeaning.{trunc-under32}
+use Rattle.float.proofs.Both.{both}
 use Rattle.float.proofs.F32.trunc.Statement.{statement}
 use Rattle.float.proofs.F32.trunc.Tie as tie
 
@@ -29,14 +32,18 @@ trunc-spec =
     (λ c κs. search needs)
     (λ c.
     let w = c .before .before .before .args .self .0 in
-    c .copysign .ensures .0
+    both (IsTrunc binary32 w)
+    (c .copysign .ensures .0
     ∙ add-zero (signBit binary32 (negative binary32 w))
     ∙ sym (rw (lt-ltb (exponent binary32 w) 127 (subst (λ (x : ℕ). x < 127) (c .before .before .extract-exponent-bits .ensures) (c .before .if1 .taken)))))
+    (trunc-under32 w (search needs)))
     (λ c κs. search needs)
     (λ c κs. search needs)
     (λ c κs. search needs)
     (λ c. subst (λ (n : ℕ). n ≤ c .before .before .before .before .before .before .args .self .0) (sym (below (c .before))) (mod-le _ _))
     (λ c.
     let w = c .before .before .before .before .before .before .args .self .0 in
-    ap (λ (n : ℕ). w - n) (below (c .before))
-    ∙ sym (rw (le-ltb (exponent binary32 w) 127 (subst (λ (x : ℕ). 127 ≤ x) (c .before .before .before .before .before .extract-exponent-bits .ensures) (c .before .before .before .before .if1 .left))))))
+    both (IsTrunc binary32 w)
+    (ap (λ (n : ℕ). w - n) (below (c .before))
+    ∙ sym (rw (le-ltb (exponent binary32 w) 127 (subst (λ (x : ℕ). 127 ≤ x) (c .before .before .before .before .before .extract-exponent-bits .ensures) (c .before .before .before .before .if1 .left)))))
+    (trunc-under32 w (c .struct-known .given .0 .fits))))
