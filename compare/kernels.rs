@@ -32,6 +32,8 @@ pub fn words(op: u32, a: u32, b: u32) -> u64 {
 pub enum Takes {
     One,
     Two,
+    /// A number and a power in two's complement.
+    Power,
 }
 
 /// When the crate's word and ours agree.
@@ -49,6 +51,8 @@ pub struct Kernel {
     pub number: Option<u32>,
     pub takes: Takes,
     pub agree: Agree,
+    /// The words that document 01 has a run skip.
+    pub skips: fn(u32, u32) -> bool,
     pub theirs: fn(u32, u32) -> u32,
     pub ours: fn(u32, u32) -> u64,
 }
@@ -71,7 +75,7 @@ impl Kernel {
     }
 
     pub fn difference(&self, a: u32, b: u32) -> Difference {
-        Difference { a, b: if self.takes == Takes::Two { Some(b) } else { None }, theirs: (self.theirs)(a, b) as u64, ours: (self.ours)(a, b) }
+        Difference { a, b: if self.takes == Takes::One { None } else { Some(b) }, theirs: (self.theirs)(a, b) as u64, ours: (self.ours)(a, b) }
     }
 }
 
@@ -86,14 +90,17 @@ fn f(w: u32) -> F32 {
 /// A raw kernel: ours is the call by number, which must not refuse.
 macro_rules! raw {
     ($number:literal, $name:literal, $takes:ident, $agree:ident, $theirs:expr) => {
-        Kernel { name: $name, number: Some($number), takes: Takes::$takes, agree: Agree::$agree, theirs: $theirs, ours: |a, b| words($number, a, b) }
+        raw!($number, $name, $takes, $agree, $theirs, |_, _| false)
+    };
+    ($number:literal, $name:literal, $takes:ident, $agree:ident, $theirs:expr, $skips:expr) => {
+        Kernel { name: $name, number: Some($number), takes: Takes::$takes, agree: Agree::$agree, skips: $skips, theirs: $theirs, ours: |a, b| words($number, a, b) }
     };
 }
 
 /// A cast or a helper, by its own exported call.
 macro_rules! helper {
     ($name:literal, $takes:ident, $agree:ident, $theirs:expr, $ours:expr) => {
-        Kernel { name: $name, number: None, takes: Takes::$takes, agree: Agree::$agree, theirs: $theirs, ours: $ours }
+        Kernel { name: $name, number: None, takes: Takes::$takes, agree: Agree::$agree, skips: |_, _| false, theirs: $theirs, ours: $ours }
     };
 }
 

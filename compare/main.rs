@@ -1,6 +1,7 @@
 //! Runs micromath's kernels beside ours, word for word, and says how many words were tried and how many differ.
 
 mod kernels;
+mod speed;
 mod sweep;
 mod words;
 
@@ -9,15 +10,17 @@ use std::process::exit;
 
 struct Wanted {
     every: bool,
+    speed: bool,
     only: Vec<u32>,
 }
 
 fn wanted() -> Result<Wanted, String> {
-    let mut wanted = Wanted { every: false, only: Vec::new() };
+    let mut wanted = Wanted { every: false, speed: false, only: Vec::new() };
     let mut args = std::env::args().skip(1);
     while let Some(arg) = args.next() {
         match arg.as_str() {
             "--every" => wanted.every = true,
+            "--speed" => wanted.speed = true,
             "--only" => {
                 for number in args.next().unwrap_or_default().split(',') {
                     wanted.only.push(u32::from_str_radix(number, 16).map_err(|_| format!("{number:?} is no operation number"))?);
@@ -41,6 +44,12 @@ fn main() {
     }
     let chosen: Vec<&Kernel> = all.iter().filter(|k| wanted.only.is_empty() || k.number.is_some_and(|n| wanted.only.contains(&n))).collect();
 
+    if wanted.speed {
+        for kernel in &chosen {
+            println!("{}", speed::line(kernel));
+        }
+        return;
+    }
     let mut total = sweep::Count::default();
     for kernel in &chosen {
         let count = sweep::sweep(kernel, wanted.every);

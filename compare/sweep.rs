@@ -18,6 +18,7 @@ pub struct Difference {
 #[derive(Default, Clone, Copy)]
 pub struct Count {
     pub tried: u64,
+    pub skipped: u64,
     pub differ: u64,
     pub first: Option<Difference>,
 }
@@ -25,6 +26,7 @@ pub struct Count {
 impl Count {
     pub fn add(&mut self, other: &Count) {
         self.tried += other.tried;
+        self.skipped += other.skipped;
         self.differ += other.differ;
         self.first = self.first.or(other.first);
     }
@@ -32,6 +34,9 @@ impl Count {
 
 pub fn line(label: &str, count: &Count) -> String {
     let mut line = format!("{label}: {} words tried, {} differ", count.tried, count.differ);
+    if count.skipped > 0 {
+        line += &format!(", {} skipped", count.skipped);
+    }
     if let Some(d) = count.first {
         let words = match d.b {
             Some(b) => format!("{:08x} {:08x}", d.a, b),
@@ -45,7 +50,7 @@ pub fn line(label: &str, count: &Count) -> String {
 /// What is tried, as numbered pairs of words: number `i` below `len` is tried as `at(i)`.
 struct Plan {
     edges: Vec<u32>,
-    pairs: bool,
+    takes: Takes,
     every: bool,
     random: u64,
     strides: u64,
@@ -55,11 +60,10 @@ const STRIDE: u32 = 65_521;
 
 impl Plan {
     fn new(kernel: &Kernel, every: bool) -> Plan {
-        let pairs = kernel.takes == Takes::Two;
         Plan {
             edges: edges(),
-            pairs,
-            every: every && !pairs,
+            takes: kernel.takes,
+            every: every && kernel.takes == Takes::One,
             random: if every { 100_000_000 } else { 2_000_000 },
             strides: u32::MAX as u64 / STRIDE as u64,
         }
@@ -67,39 +71,37 @@ impl Plan {
 
     fn len(&self) -> u64 {
         let n = self.edges.len() as u64;
-        match (self.every, self.pairs) {
-            (true, _) => 1 << 32,
-            (false, true) => n * n + self.random,
-            (false, false) => n + self.strides + self.random,
+        match self.takes {
+            Takes::One if self.every => 1 << 32,
+            Takes::One => n + self.strides + self.random,
+            Takes::Two | Takes::Power => n * n + self.random,
         }
     }
 
     /// Tries the numbers from `from` to `to`.
-    fn run(&self, kernel: &Kernel, from: u64, to: u64, count: &mut Count) {
+    fn run(&self, kernel: &Kernel, from: u64, to: u64) -> Count {
         let n = self.edges.len() as u64;
         let mut random = Random::new(from + 1);
+        let mut count = Count::default();
         for i in from..to {
-            let (a, b) = if self.every {
-                (i as u32, 0)
-            } else if self.pairs {
-                if i < n * n {
-                    (self.edges[(i / n) as usize], self.edges[(i % n) as usize])
-                } else {
-                    (random.word(), random.word())
-                }
-            } else if i < n {
-                (self.edges[i as usize], 0)
-            } else if i < n + self.strides {
-                ((i - n) as u32 * STRIDE, 0)
-            } else {
-                (random.word(), 0)
+            let (a, b) = match self.takes {
+                Takes::One if self.every => (i as u32, 0),
+                Takes::One if i < n => (self.edges[i as usize], 0),
+                Takes::One if i < n + self.strides => ((i - n) as u32 * STRIDE, 0),
+                Takes::One => (random.word(), 0),
+                Takes::Two | Takes::Power if i < n * n => (self.edges[(i / n) as usize], self.edges[(i % n) as usize]),
+                Takes::Two => random.pair(),
+                Takes::Power => random.power(),
             };
-            if !kernel.same(a, b) {
+            if (kernel.skips)(a, b) {
+                count.skipped += 1;
+            } else if !kernel.same(a, b) {
                 count.differ += 1;
                 count.first.get_or_insert_with(|| kernel.difference(a, b));
             }
         }
-        count.tried += to - from;
+        count.tried = to - from - count.skipped;
+        count
     }
 }
 
@@ -120,9 +122,7 @@ pub fn sweep(kernel: &Kernel, every: bool) -> Count {
                     break;
                 }
                 let to = len.min(from + BLOCK);
-                let mut count = Count::default();
-                plan.run(kernel, from, to, &mut count);
-                found.lock().unwrap().push((from, count));
+                found.lock().unwrap().push((from, plan.run(kernel, from, to)));
                 done.fetch_add(to - from, Ordering::Relaxed);
             });
         }

@@ -14,6 +14,36 @@ impl Random {
         self.0 ^= self.0 >> 27;
         (self.0.wrapping_mul(0x2545_f491_4f6c_dd1d) >> 32) as u32
     }
+
+    /// A word within sixteen powers of two of 1.
+    pub fn near_one(&mut self) -> u32 {
+        within(self.word())
+    }
+
+    /// Two words: any two, two of about the same size, or two within sixteen powers of two of 1.
+    pub fn pair(&mut self) -> (u32, u32) {
+        let (a, b) = (self.word(), self.word());
+        match self.word() % 3 {
+            0 => (a, b),
+            1 => (a, (a & 0x7f80_0000).wrapping_add(b & 0x017f_ffff) ^ (b & 0x8000_0000)),
+            _ => (within(a), within(b)),
+        }
+    }
+
+    /// A number and a power: any two, a number about 1 with a power that it can bear, or any number with a small power.
+    pub fn power(&mut self) -> (u32, u32) {
+        let (a, b) = (self.word(), self.word());
+        match self.word() % 3 {
+            0 => (a, b),
+            1 => (a & 0x80ff_ffff | 0x3f00_0000, (b as i32 >> (b % 24)) as u32),
+            _ => (a, (b as i32 >> 24) as u32),
+        }
+    }
+}
+
+/// A word of the same sign and digits, within sixteen powers of two of 1.
+fn within(w: u32) -> u32 {
+    w & 0x87ff_ffff | if w & 0x0800_0000 == 0 { 0x3800_0000 } else { 0x4000_0000 }
 }
 
 /// Each sign and exponent field with the fractions 0, 1 and 2, those about the half, and the last two; then small whole
