@@ -13,9 +13,11 @@ impl F32 {
         ensures ieee { λ r. ⌜ (To31 (self .0) → IsFloor binary32 (self .0) (r .0)) ⌝ }
     {
         let whole = cast::from_i32(self.to_i32());
-        if self.value() < whole {
-            return F32::of(whole - F32::ONE.value());
-        }
-        F32::of(whole)
+        let below = if self.value() < whole {
+            whole - 1.0
+        } else {
+            whole
+        };
+        F32::of(below)
     }
 }

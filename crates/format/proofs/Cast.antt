@@ -1,4 +1,4 @@
--- A word's cast to an integer, by its units: the whole part with the word's sign, held within the range; and the three
+-- A word's cast to an integer, by its units: the whole part with the word's sign, held within the range; and the two
 -- ranges of a 32-bit word's exponent field that its cast to a 32-bit integer goes by. Assumes nothing.
 use Prim.Native.Nat.{ℕ, zero, suc, _+_, _-_, _*_, _/_, _%_, _^_, _<_, _≤_, min}
 use native.Mathlib.Nat.{mul-assoc, mod-lt, div-eq-of-lt, lt-of-lt-of-le, le-trans, mul-lt-mul-of-pos-right, mul-le-mul-left, mul-le-mul-right, div-lt-iff-lt-mul, eq-or-lt-of-le}
@@ -7,7 +7,8 @@ use mathlib.Core.Path.{_≡_, refl, sym, ap, subst, _∙_}
 use mathlib.Core.Logic.{_⊎_, inl, inr}
 use mathlib.Core.Bool.{Bool, true, false, cond}
 use lib.IntN.{ℤ, pos, negsuc, negℤ}
-use lib.Dec.{lit<, lit≤}
+use borrow.Author.Tests.{ltb-true, ltb-false}
+use lib.Dec.{ltb, lit<, lit≤}
 use lib.Pow.{pow-pos, pow-add, pow-mono}
 use lib.Ieee.{Format, binary32, Float, nan, inf, fin, up, down, low, ofBits, nanBits, toSigned}
 use lib.Ieee.Exact.{HasValue}
@@ -36,13 +37,7 @@ nan-cast : (h : ℕ) (x : Float) → x ≡ nan → toSigned h x ≡ pos 0
 unfolding toSigned
 nan-cast h x e = rw e
 
--- below 1
-below-one : (x t : ℕ) → x < 127 → t < 2 ^ 23 → unitsAt binary32 x t / 2 ^ 149 ≡ 0
-below-one zero t h k = div-eq-of-lt (lt-of-lt-of-le k (lit≤ tt))
-below-one (suc x) t h k =
-    div-eq-of-lt (lt-of-lt-of-le (mul-lt-mul-of-pos-right {m = 2 ^ 23 + t} {n = 2 ^ 24} (omega arith) (pow-pos x)) (mul-le-mul-left (2 ^ 24) (pow-mono {i = x} {j = 125} (omega arith))))
-
--- from 1 up to 2 ^ 31 the significand, moved to the top of a word, comes down by 158 less the field
+-- up to 2 ^ 31 the significand, moved to the top of a word, comes down by 158 less the field
 same-weight : (a x : ℕ) → x ≤ 157 → a * 2 ^ 8 * 2 ^ 149 ≡ a * 2 ^ x * 2 ^ (157 - x)
 same-weight a x h =
     mul-assoc a (2 ^ 8) (2 ^ 149)
@@ -50,11 +45,21 @@ same-weight a x h =
     ∙ ap (λ (k : ℕ). a * k) (pow-add 2 x (157 - x))
     ∙ sym (mul-assoc a (2 ^ x) (2 ^ (157 - x)))
 
-in-range : (x t : ℕ) → 127 ≤ x → x ≤ 157 → (2 ^ 23 + t) * 2 ^ 8 / 2 ^ (158 - x) ≡ unitsAt binary32 x t / 2 ^ 149
-in-range zero t h k = absurd (let z : ⊥ = omega arith in z)
+-- a word moved down by as much as its width is nothing
+all-gone : (n k : ℕ) → n < 2 ^ 32 → 32 ≤ k → n / 2 ^ k ≡ 0
+all-gone n k h l = div-eq-of-lt (lt-of-lt-of-le h (pow-mono l))
+
+abbrev topped : ℕ → ℕ
+topped t = (2 ^ 23 + t) * 2 ^ 8
+
+topped-lt : (t : ℕ) → t < 2 ^ 23 → topped t < 2 ^ 32
+topped-lt t h = omega arith
+
+in-range : (x t : ℕ) → x ≤ 157 → t < 2 ^ 23 → topped t / 2 ^ (158 - x) ≡ unitsAt binary32 x t / 2 ^ 149
+in-range zero t h k = all-gone (topped t) 158 (topped-lt t k) (lit≤ tt) ∙ sym (div-eq-of-lt (lt-of-lt-of-le k (lit≤ tt)))
 in-range (suc x) t h k =
-    ap (λ (c : ℕ). (2 ^ 23 + t) * 2 ^ 8 / 2 ^ c) (let e : 158 - suc x ≡ 157 - x = omega arith in e)
-    ∙ div-same ((2 ^ 23 + t) * 2 ^ 8) (2 ^ (157 - x)) ((2 ^ 23 + t) * 2 ^ x) (2 ^ 149) (pow-pos (157 - x)) (lit< tt) (same-weight (2 ^ 23 + t) x (omega arith))
+    ap (λ (c : ℕ). topped t / 2 ^ c) (let e : 158 - suc x ≡ 157 - x = omega arith in e)
+    ∙ div-same (topped t) (2 ^ (157 - x)) ((2 ^ 23 + t) * 2 ^ x) (2 ^ 149) (pow-pos (157 - x)) (lit< tt) (same-weight (2 ^ 23 + t) x (omega arith))
 
 past-range : (x t : ℕ) → 158 ≤ x → 2 ^ 31 ≤ unitsAt binary32 x t / 2 ^ 149
 past-range zero t h = absurd (let z : ⊥ = omega arith in z)
@@ -71,32 +76,40 @@ nan-casts w e = nan-cast 31 (ofBits binary32 w) (nan-read binary32 w e)
 finite-casts : (w n : ℕ) → exponent binary32 w < 255 → units binary32 w / 2 ^ 149 ≡ n → Casts w (held 31 (negative binary32 w) n)
 finite-casts w n h e = word-cast binary32 31 w h ∙ ap (held 31 (negative binary32 w)) e
 
-no-sign : (s : Bool) → held 31 s 0 ≡ pos 0
-no-sign true = refl
-no-sign false = refl
-
-pub small-casts : (w : ℕ) → exponent binary32 w < 127 → Casts w (pos 0)
-small-casts w h = finite-casts w 0 (omega arith) (below-one (exponent binary32 w) (fraction binary32 w) h (mod-lt w (lit< tt))) ∙ no-sign (negative binary32 w)
-
--- the whole part as the code forms it
+-- the whole part as the code forms it: the shift is held below the width of two words
 abbrev pub shifted : ℕ → ℕ
-shifted w = (2 ^ 23 + fraction binary32 w) * 2 ^ 8 / 2 ^ (158 - exponent binary32 w)
+shifted w = topped (fraction binary32 w) / 2 ^ min (158 - exponent binary32 w) 63
+
+shifted-is : (w : ℕ) → shifted w ≡ topped (fraction binary32 w) / 2 ^ (158 - exponent binary32 w)
+shifted-is w = go (ltb k 63) refl
+  where
+    k : ℕ
+    k = 158 - exponent binary32 w
+
+    t-lt : fraction binary32 w < 2 ^ 23
+    t-lt = mod-lt w (lit< tt)
+
+    go : (b : Bool) → ltb k 63 ≡ b → topped (fraction binary32 w) / 2 ^ min k 63 ≡ topped (fraction binary32 w) / 2 ^ k
+    go true e = ap (λ (n : ℕ). topped (fraction binary32 w) / 2 ^ n) (let i : min k 63 ≡ k = omega (arith, ltb-true k 63 e) in i)
+    go false e =
+        let i : min k 63 ≡ 63 = omega (arith, ltb-false k 63 e) in
+        let l : 32 ≤ k = omega (arith, ltb-false k 63 e) in
+        ap (λ (n : ℕ). topped (fraction binary32 w) / 2 ^ n) i ∙ all-gone _ 63 (topped-lt _ t-lt) (lit≤ tt) ∙ sym (all-gone _ k (topped-lt _ t-lt) l)
 
 pub shifted-lt : (w : ℕ) → exponent binary32 w ≤ 157 → shifted w < 2 ^ 31
 shifted-lt w h =
     let k = 158 - exponent binary32 w in
-    let d : fraction binary32 w < 2 ^ 23 = mod-lt w (lit< tt) in
-    let full : (2 ^ 23 + fraction binary32 w) * 2 ^ 8 < 2 ^ 31 * 2 ^ 1 = omega arith in
     let step : 1 ≤ k = omega arith in
-    div-lt-iff-lt-mul (pow-pos k) .1 (lt-of-lt-of-le full (mul-le-mul-left (2 ^ 31) (pow-mono step)))
+    subst (λ (n : ℕ). n < 2 ^ 31) (sym (shifted-is w))
+    (div-lt-iff-lt-mul (pow-pos k) .1 (lt-of-lt-of-le {m = 2 ^ 31 * 2 ^ 1} (topped-lt _ (mod-lt w (lit< tt))) (mul-le-mul-left (2 ^ 31) (pow-mono step))))
 
 held-within : (s : Bool) (n : ℕ) → n < 2 ^ 31 → held 31 s n ≡ cond s (negℤ (pos n)) (pos n)
 held-within true n h = ap (λ (k : ℕ). negℤ (pos k)) (let e : min n (2 ^ 31) ≡ n = omega arith in e)
 held-within false n h = ap pos (let e : min n (2 ^ 31 - 1) ≡ n = omega arith in e)
 
-pub range-casts : (w : ℕ) → 127 ≤ exponent binary32 w → exponent binary32 w ≤ 157 → Casts w (cond (negative binary32 w) (negℤ (pos (shifted w))) (pos (shifted w)))
-range-casts w l h =
-    finite-casts w (shifted w) (omega arith) (sym (in-range (exponent binary32 w) (fraction binary32 w) l h))
+pub range-casts : (w : ℕ) → exponent binary32 w ≤ 157 → Casts w (cond (negative binary32 w) (negℤ (pos (shifted w))) (pos (shifted w)))
+range-casts w h =
+    finite-casts w (shifted w) (omega arith) (sym (shifted-is w ∙ in-range (exponent binary32 w) (fraction binary32 w) h (mod-lt w (lit< tt))))
     ∙ held-within (negative binary32 w) (shifted w) (shifted-lt w h)
 
 -- an end of the range, by the sign

@@ -1,10 +1,10 @@
--- `float::F32::floor` meets its contract: the cast there and back, and the branch that the definition's test picks. Assumes nothing.
+-- `float::F32::floor` meets its contract: the cast there and back, and the arm that the definition's test picks. Assumes nothing.
 use borrow.Author.Needs.{needs}
 use mathlib.Core.Path.{_≡_, sym, ap, _∙_}
-use mathlib.Core.Bool.{Bool, cond}
-use lib.Ieee.{Float, binary32, lt, sub, ofBits, toBits, ofInt}
+use mathlib.Core.Logic.{⊎-elim}
+use lib.Ieee.{binary32, lt, sub, ofBits, toBits, ofInt}
 use mir.Facts.{toZ-ofZ}
-use Rattle.format.specs.Whole.{throughInt}
+use Rattle.format.specs.Whole.{throughInt, floorValue}
 use Rattle.format.specs.Meaning.{IsFloor}
 use Rattle.format.proofs.FloorMeaning.{floor-is}
 use Rattle.float.proofs.Both.{both}
@@ -17,11 +17,12 @@ whole-is c = c .from-i32 .ensures ∙ ap (ofInt binary32) (toZ-ofZ (record { sfi
 test-is : (c : tie.After-value) → let x = ofBits binary32 (c .before .before .before .args .self .0) in lt (c .value .result) (c .before .from-i32 .result) ≡ lt x (throughInt binary32 x)
 test-is c = rw (c .value .ensures, whole-is (c .before))
 
--- the definition, with its test's outcome in the place of the test
-picked : (x : Float) (b : Bool) → lt x (throughInt binary32 x) ≡ b
-    → toBits binary32 (cond b (sub binary32 (throughInt binary32 x) (ofBits binary32 0x3f80_0000)) (throughInt binary32 x))
-    ≡ toBits binary32 (cond (lt x (throughInt binary32 x)) (sub binary32 (throughInt binary32 x) (ofBits binary32 0x3f80_0000)) (throughInt binary32 x))
-picked x b e = rw e
+below-is : (c : tie.Joined1) → c .if1 .below ≡ floorValue binary32 (ofBits binary32 (c .before .before .before .before .args .self .0))
+below-is c =
+    ⊎-elim
+    (λ w. w .1 ∙ rw (whole-is (c .before .before), sym (test-is (c .before)) ∙ w .0 .taken))
+    (λ w. w .1 ∙ rw (whole-is (c .before .before), sym (test-is (c .before)) ∙ w .0 .left))
+    (c .if1 .came)
 
 pub floor-spec : {M : Type 1} → statement M
 floor-spec =
@@ -31,19 +32,6 @@ floor-spec =
     (λ c κs. search needs)
     (λ c κs. search needs)
     (λ c κs. search needs)
-    (λ c κs. search needs)
-    (λ c.
-    let w = c .before .before .before .before .before .before .args .self .0 in
-    let x = ofBits binary32 w in
-    both (IsFloor binary32 w)
-    (c .of .ensures
-    ∙ ap (λ (y : Float). toBits binary32 (sub binary32 y (c .before .value2 .result))) (whole-is (c .before .before .before .before))
-    ∙ ap (λ (y : Float). toBits binary32 (sub binary32 (throughInt binary32 x) y)) (c .before .value2 .ensures)
-    ∙ picked x _ (sym (test-is (c .before .before .before)) ∙ c .before .before .if1 .taken))
-    (floor-is w))
-    (λ c κs. search needs)
     (λ c.
     let w = c .before .before .before .before .before .args .self .0 in
-    both (IsFloor binary32 w)
-    (c .of2 .ensures ∙ ap (toBits binary32) (whole-is (c .before .before .before)) ∙ picked (ofBits binary32 w) _ (sym (test-is (c .before .before)) ∙ c .before .if1 .left))
-    (floor-is w)))
+    both (IsFloor binary32 w) (c .of .ensures ∙ ap (toBits binary32) (below-is (c .before))) (floor-is w)))
