@@ -15,10 +15,13 @@ pub mod ceil;
 pub mod copysign;
 pub mod floor;
 pub mod fract;
+pub mod inv;
+pub mod invsqrt;
 pub mod powi;
 pub mod raw;
 pub mod round;
 pub mod signum;
+pub mod sqrt;
 pub mod trunc;
 pub mod wrap;
 
