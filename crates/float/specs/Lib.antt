@@ -1,3 +1,5 @@
 -- The definitions of this crate's own; those over the formats are in `format`.
 pub mod Powi
 pub mod Raw
+pub mod Rounded
+pub mod Recip

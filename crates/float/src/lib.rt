@@ -19,6 +19,7 @@ pub mod inv;
 pub mod invsqrt;
 pub mod powi;
 pub mod raw;
+pub mod recip;
 pub mod round;
 pub mod signum;
 pub mod sqrt;
