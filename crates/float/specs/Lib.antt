@@ -3,3 +3,5 @@ pub mod Powi
 pub mod Raw
 pub mod Rounded
 pub mod Recip
+pub mod Hypot
+pub mod Ln
