@@ -1,7 +1,7 @@
 -- `float::F32::ln` meets its contract: each return is the case of the definition that the tests before it pick. Assumes nothing.
 use borrow.Author.Needs.{needs}
-use mathlib.Core.Path.{_≡_, sym, ap, _∙_}
-use mathlib.Core.Bool.{Bool, true, false}
+use mathlib.Core.Path.{_≡_, sym, _∙_}
+use mathlib.Core.Bool.{false}
 use lib.Ieee.{binary32, lt, ofBits}
 use Rattle.float.specs.Ln.{isAboutOne, lnWord}
 use Rattle.float.proofs.F32.ln.Statement.{statement}

@@ -1,6 +1,5 @@
 -- `float::ln::logarithm` meets its contract: the mask leaves the exponent field, and the rest is a chain of calls. Assumes nothing.
 use borrow.Author.Needs.{needs}
-use mathlib.Core.Path.{_≡_}
 use lib.Ieee.{binary32}
 use mir.Facts.{toZ-ofZ}
 use Rattle.format.proofs.Masks.{only-field}
