@@ -7,3 +7,4 @@ mod Twos
 pub mod Squaring
 pub mod Products
 pub mod OneAnswer
+pub mod Examples

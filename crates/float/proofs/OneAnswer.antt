@@ -24,6 +24,12 @@ use Rattle.float.proofs.F32.ceil.Reads as ceil
 use Rattle.float.proofs.F32.round.Reads as round
 use Rattle.float.proofs.F32.abs.Reads as abs
 use Rattle.float.proofs.F32.copysign.Reads as copysign
+use Rattle.float.proofs.F32.sqrt.Reads as sqrt
+use Rattle.float.proofs.F32.inv.Reads as inv
+use Rattle.float.proofs.F32.invsqrt.Reads as invsqrt
+use Rattle.float.proofs.F32.recip.Reads as recip
+use Rattle.float.proofs.F32.ln.Reads as ln
+use Rattle.float.proofs.F32.hypot.Reads as hypot
 use Rattle.float.proofs.F32.powi.Reads as powi
 use Rattle.float.proofs.F32.signum.Reads as signum
 use Rattle.float.proofs.cast.from_i32.Reads as from-i32
@@ -139,6 +145,24 @@ module _ (κs : Lfts 0) where
 
   pub F32-signum : OneAnswer (signum.Post κs) (λ r x. r .0)
   F32-signum = pinned _ (λ a r x p. p)
+
+  pub F32-sqrt : OneAnswer (sqrt.Post κs) (λ r x. r .0)
+  F32-sqrt = pinned _ (λ a r x p. p .0)
+
+  pub F32-inv : OneAnswer (inv.Post κs) (λ r x. r .0)
+  F32-inv = pinned _ (λ a r x p. p .0)
+
+  pub F32-invsqrt : OneAnswer (invsqrt.Post κs) (λ r x. r .0)
+  F32-invsqrt = pinned _ (λ a r x p. p .0)
+
+  pub F32-recip : OneAnswer (recip.Post κs) (λ r x. r .0)
+  F32-recip = pinned _ (λ a r x p. p)
+
+  pub F32-ln : OneAnswer (ln.Post κs) (λ r x. r .0)
+  F32-ln = pinned _ (λ a r x p. p)
+
+  pub F32-hypot : OneAnswer (hypot.Post κs) (λ r x. r .0)
+  F32-hypot = pinned _ (λ a r x p. p)
 
   pub F32-powi : OneAnswer (powi.Post κs) (λ r x. r .0)
   F32-powi = pinned _ (λ a r x p. p)

@@ -15,10 +15,16 @@ pub mod ceil;
 pub mod copysign;
 pub mod floor;
 pub mod fract;
+pub mod hypot;
+pub mod inv;
+pub mod invsqrt;
+pub mod ln;
 pub mod powi;
 pub mod raw;
+pub mod recip;
 pub mod round;
 pub mod signum;
+pub mod sqrt;
 pub mod trunc;
 pub mod wrap;
 

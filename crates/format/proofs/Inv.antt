@@ -1,17 +1,18 @@
 -- inv's answer times its operand lies from 1 to 9/8, and turning the operand's sign turns the answer's and nothing else. Assumes nothing.
 use Prim.Native.Nat.{ℕ, _+_, _-_, _*_, _/_, _%_, _^_, _≤_, _<_}
-use native.Mathlib.Nat.{add-mul, mul-le-mul-left, mod-lt, mod-eq-of-lt, div-add-mod', div-mul-le-self, le-of-mul-le-mul-right, le-of-lt, le-trans, add-sub-of-le, sub-add-cancel, sub-le}
+use native.Mathlib.Nat.{zero-add, add-comm, add-mul, mul-le-mul-left, mod-lt, mod-eq-of-lt, mod-eq-sub-mod, div-add-mod', div-mul-le-self, le-of-mul-le-mul-right, le-of-lt, le-trans, add-sub-of-le, sub-add-cancel, sub-le}
 use native.Mathlib.Omega.{arith}
 use mathlib.Core.Path.{_≡_, refl, sym, ap, _∙_}
 use mathlib.Core.Logic.{_⊎_, inl, inr}
-use mathlib.Core.Bool.{cond}
-use borrow.Author.Tests.{le-leb, lt-leb}
+use mathlib.Core.Bool.{Bool, true, false, not, cond}
+use borrow.Author.Tests.{le-leb, lt-leb, leb-true, leb-false}
 use lib.Dec.{leb, lit<}
 use lib.Pow.{pow-add}
 use lib.Ieee.{Format, binary32, binary64, emax, low, hid, top}
-use Rattle.format.specs.Fields.{width, infWord}
+use Rattle.format.specs.Fields.{width, negative, signBit, infWord}
+use Rattle.format.specs.Sign.{turnedWord}
 use Rattle.format.specs.Value.{units, Finite}
-use Rattle.format.specs.Estimates.{invMagic, invWord, turned, Normal, Invertible, InvBound}
+use Rattle.format.specs.Estimates.{invMagic, invWord, Normal, Invertible, InvBound}
 use Rattle.format.proofs.Fields.{hid-pos}
 use Rattle.format.proofs.Order.{either, squares, no-wrap}
 use Rattle.format.proofs.Normal.{normal-finite, twice-units}
@@ -148,5 +149,16 @@ magic-unsigned : (f : Format) → invMagic f < top f
 magic-unsigned binary32 = lit< tt
 magic-unsigned binary64 = lit< tt
 
-pub inv-sign : (f : Format) (w : ℕ) → w < 2 * top f → invWord f (turned f w) ≡ turned f (invWord f w)
-inv-sign f w h = rw (word-is f) (turns (top f) (invMagic f) (magic-unsigned f) w (omega arith))
+-- below 2 ^ width f, to turn the sign is to move the word by the sign's weight
+turned-is : (f : Format) (w : ℕ) → w < top f + top f → turnedWord f w ≡ turn (top f) (invMagic f) (magic-unsigned f) w
+turned-is f w h = go (negative f w) refl
+  where
+    go : (s : Bool) → negative f w ≡ s → signBit f (not s) + w % top f ≡ cond s (w - top f) (w + top f)
+    go true e = let l : top f ≤ w = leb-true (top f) w e in rw (mod-eq-sub-mod l, mod-eq-of-lt {n = w - top f} {m = top f} (omega arith), zero-add)
+    go false e = rw (mod-eq-of-lt (leb-false (top f) w e)) (add-comm (top f) w)
+
+pub inv-sign : (f : Format) (w : ℕ) → w < 2 * top f → invWord f (turnedWord f w) ≡ turnedWord f (invWord f w)
+inv-sign f w h =
+    let l : w < top f + top f = omega arith in
+    let r : invWord f w < top f + top f = rw (word-is f) (mod-lt _ (omega (arith, magic-unsigned f))) in
+    ap (invWord f) (turned-is f w l) ∙ rw (word-is f) (turns (top f) (invMagic f) (magic-unsigned f) w l) ∙ sym (turned-is f (invWord f w) r)

@@ -4,7 +4,7 @@ use Prim.Native.Nat.{ℕ, _+_, _-_, _*_, _/_, _%_, _^_, _≤_, _<_}
 use mathlib.Core.Bool.{Bool, cond, _||_}
 use lib.Dec.{leb, eqb}
 use lib.Ieee.{Format, binary32, prec, emax, low, hid, top}
-use Rattle.format.specs.Fields.{width, negative, oneWord, infWord, nanWord}
+use Rattle.format.specs.Fields.{width, oneWord, infWord, nanWord}
 use Rattle.format.specs.Value.{units}
 
 -- ---- the words
@@ -28,10 +28,6 @@ invsqrtMagic = 0x5f37_5a86
 
 abbrev pub invsqrtWord : ℕ → ℕ
 invsqrtWord w = (2 ^ 32 + invsqrtMagic - w / 2) % 2 ^ 32
-
--- the word with its sign bit turned
-abbrev pub turned : Format → ℕ → ℕ
-turned f w = cond (negative f w) (w - top f) (w + top f)
 
 -- ---- the operands that a bound is about
 

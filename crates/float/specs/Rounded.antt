@@ -1,0 +1,20 @@
+-- The operations of binary32, each rounded once, as signs between two numbers, and a word as the number that it is. Definitions only.
+use Prim.Native.Nat.{ℕ}
+use lib.Ieee.{Float, binary32, add, sub, mul, div, ofBits}
+
+infixl 6 _⊕_ _⊖_
+infixl 7 _⊗_ _⊘_
+abbrev pub _⊕_ : Float → Float → Float
+_⊕_ = add binary32
+
+abbrev pub _⊖_ : Float → Float → Float
+_⊖_ = sub binary32
+
+abbrev pub _⊗_ : Float → Float → Float
+_⊗_ = mul binary32
+
+abbrev pub _⊘_ : Float → Float → Float
+_⊘_ = div binary32
+
+abbrev pub number : ℕ → Float
+number = ofBits binary32

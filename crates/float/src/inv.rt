@@ -1,0 +1,19 @@
+// The inverse, estimated by one subtraction of words that wraps. From 2^-126 to 2^126 the answer
+// times the number lies from 1 to 9/8 (`InvBound`).
+ghost use mathlib.Core.Path.{_≡_};
+ghost use lib.Ieee.{binary32};
+ghost use Rattle.format.specs.Estimates.{invWord, Invertible, InvBound};
+use crate::F32;
+use crate::wrap;
+
+// Twice the word of 1: an exponent is turned about the bias.
+const INV_MAGIC: u32 = 0x7f00_0000;
+
+impl F32 {
+    pub fn inv(self) -> F32
+        ensures steps { λ r. ⌜ r .0 ≡ invWord binary32 (self .0) ⌝ }
+        ensures bound { λ r. ⌜ (Invertible binary32 (self .0) → InvBound binary32 (self .0) (r .0)) ⌝ }
+    {
+        F32(wrap::difference(INV_MAGIC, self.0))
+    }
+}
