@@ -6,6 +6,8 @@ use lib.Ieee.{binary32}
 use Rattle.format.specs.Sign.{absWord, copysignWord, signumWord}
 use Rattle.format.specs.Parts.{truncWord, fractWord}
 use Rattle.format.specs.Whole.{floorWord, ceilWord, roundWord}
+use Rattle.format.specs.Estimates.{sqrtWord, invWord, invsqrtWord}
+use Rattle.float.specs.Recip.{recipWord}
 
 pub data Kernel : Type 0 where
   none : Kernel
@@ -24,6 +26,10 @@ kernels =
     ∷ one (absWord binary32)
     ∷ two (copysignWord binary32)
     ∷ one (signumWord binary32)
+    ∷ one (sqrtWord binary32)
+    ∷ one invsqrtWord
+    ∷ one (invWord binary32)
+    ∷ one recipWord
     ∷ []
 
 abbrev pub kernelOf : ℕ → Kernel

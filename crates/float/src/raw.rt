@@ -16,6 +16,10 @@ pub fn operands(number: u32) -> u32
         0x06 => 1,
         0x07 => 2,
         0x08 => 1,
+        0x09 => 1,
+        0x0a => 1,
+        0x0b => 1,
+        0x0c => 1,
         _ => 0,
     }
 }
@@ -34,6 +38,10 @@ pub fn answer(number: u32, a: u32, b: u32) -> u32
         0x06 => F32(a).abs().0,
         0x07 => F32(a).copysign(F32(b)).0,
         0x08 => F32(a).signum().0,
+        0x09 => F32(a).sqrt().0,
+        0x0a => F32(a).invsqrt().0,
+        0x0b => F32(a).inv().0,
+        0x0c => F32(a).recip().0,
         _ => 0,
     }
 }

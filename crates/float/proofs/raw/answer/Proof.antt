@@ -18,6 +18,10 @@ answer-spec =
     (λ c κs. search needs)
     (λ c κs. search needs)
     (λ c κs. search needs)
+    (λ c κs. search needs)
+    (λ c κs. search needs)
+    (λ c κs. search needs)
+    (λ c κs. search needs)
     (λ c. c .trunc .ensures .0 ∙ rw (c .before .match .keys1))
     (λ c. c .fract .ensures .0 ∙ rw (c .before .match .keys2))
     (λ c. c .floor .ensures .0 ∙ rw (c .before .match .keys3))
@@ -26,6 +30,10 @@ answer-spec =
     (λ c. c .abs .ensures .0 ∙ rw (c .before .match .keys6))
     (λ c. c .copysign .ensures .0 ∙ rw (c .before .match .keys7))
     (λ c. c .signum .ensures ∙ rw (c .before .match .keys8))
+    (λ c. c .sqrt .ensures .0 ∙ rw (c .before .match .keys9))
+    (λ c. c .invsqrt .ensures .0 ∙ rw (c .before .match .keys10))
+    (λ c. c .inv .ensures .0 ∙ rw (c .before .match .keys11))
+    (λ c. c .recip .ensures ∙ rw (c .before .match .keys12))
     (λ c.
     let a = c .before .args in
     sym (ap (λ (k : Kernel). rawOf k (a .a) (a .b)) (unlisted (a .number) (c .match .rest)))))

@@ -18,4 +18,8 @@ operands-spec =
     (λ c. search needs)
     (λ c. search needs)
     (λ c. search needs)
+    (λ c. search needs)
+    (λ c. search needs)
+    (λ c. search needs)
+    (λ c. search needs)
     (λ c. sym (ap operandsOf (unlisted (c .before .args .number) (c .match .rest)))))
