@@ -24,8 +24,10 @@ use Rattle.float.proofs.F32.ceil.Reads as ceil
 use Rattle.float.proofs.F32.round.Reads as round
 use Rattle.float.proofs.F32.abs.Reads as abs
 use Rattle.float.proofs.F32.copysign.Reads as copysign
+use Rattle.float.proofs.F32.cos.Reads as cos
 use Rattle.float.proofs.F32.powi.Reads as powi
 use Rattle.float.proofs.F32.signum.Reads as signum
+use Rattle.float.proofs.F32.sin.Reads as sin
 use Rattle.float.proofs.cast.from_i32.Reads as from-i32
 use Rattle.float.proofs.cast.from_u32.Reads as from-u32
 use Rattle.float.proofs.cast.bits_of_i32.Reads as bits-of-i32
@@ -142,6 +144,12 @@ module _ (κs : Lfts 0) where
 
   pub F32-powi : OneAnswer (powi.Post κs) (λ r x. r .0)
   F32-powi = pinned _ (λ a r x p. p)
+
+  pub F32-cos : OneAnswer (cos.Post κs) (λ r x. r .0)
+  F32-cos = pinned _ (λ a r x p. p)
+
+  pub F32-sin : OneAnswer (sin.Post κs) (λ r x. r .0)
+  F32-sin = pinned _ (λ a r x p. p)
 
   -- ---- the kernels by number
   pub raw-operands : OneAnswer (operands.Post κs) (λ r x. r)

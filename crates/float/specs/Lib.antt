@@ -1,3 +1,5 @@
 -- The definitions of this crate's own; those over the formats are in `format`.
+pub mod Engine
+pub mod Cos
 pub mod Powi
 pub mod Raw

@@ -13,12 +13,14 @@ pub mod abs;
 pub mod cast;
 pub mod ceil;
 pub mod copysign;
+pub mod cos;
 pub mod floor;
 pub mod fract;
 pub mod powi;
 pub mod raw;
 pub mod round;
 pub mod signum;
+pub mod sin;
 pub mod trunc;
 pub mod wrap;
 
