@@ -2,7 +2,9 @@
 mod Leading
 mod Numbers
 mod Point
+mod Signs
 mod Twos
 pub mod Squaring
 pub mod Products
 pub mod OneAnswer
+pub mod ExactCases

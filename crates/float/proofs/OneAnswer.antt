@@ -28,6 +28,8 @@ use Rattle.float.proofs.F32.cos.Reads as cos
 use Rattle.float.proofs.F32.powi.Reads as powi
 use Rattle.float.proofs.F32.signum.Reads as signum
 use Rattle.float.proofs.F32.sin.Reads as sin
+use Rattle.float.proofs.F32.atan_norm.Reads as atan-norm
+use Rattle.float.proofs.F32.atan.Reads as atan
 use Rattle.float.proofs.cast.from_i32.Reads as from-i32
 use Rattle.float.proofs.cast.from_u32.Reads as from-u32
 use Rattle.float.proofs.cast.bits_of_i32.Reads as bits-of-i32
@@ -150,6 +152,12 @@ module _ (κs : Lfts 0) where
 
   pub F32-sin : OneAnswer (sin.Post κs) (λ r x. r .0)
   F32-sin = pinned _ (λ a r x p. p)
+
+  pub F32-atan-norm : OneAnswer (atan-norm.Post κs) (λ r x. r .0)
+  F32-atan-norm = pinned _ (λ a r x p. p)
+
+  pub F32-atan : OneAnswer (atan.Post κs) (λ r x. r .0)
+  F32-atan = pinned _ (λ a r x p. p)
 
   -- ---- the kernels by number
   pub raw-operands : OneAnswer (operands.Post κs) (λ r x. r)

@@ -10,6 +10,7 @@ ghost use Rattle.format.specs.Fields.{negative, magnitude, exponent};
 ghost use Rattle.format.specs.Exponent.{exponentValue, setExponentWord, isIntegerWord, isEvenWord};
 
 pub mod abs;
+pub mod atan;
 pub mod cast;
 pub mod ceil;
 pub mod copysign;
