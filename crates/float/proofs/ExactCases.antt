@@ -1,21 +1,33 @@
--- The words that the documents give for single operands, by computation. Assumes nothing.
+-- The answers that are known word by word, by one computation over the definitions that the contracts cite. Assumes nothing.
 use Prim.Native.Nat.{ℕ}
-use mathlib.Core.Path.{_≡_, refl}
 use mathlib.Core.Bool.{Bool, true, _&&_}
-use lib.Dec.{eqb}
-use lib.Ieee.{add, sub, mul, div, lt, nanBits, ofBits, toBits, ofInt, toSigned}
+use mathlib.Core.List.{List, [], _∷_}
+use lib.Dec.{T, eqb}
+use lib.Ieee.{add, sub, mul, div, lt, eq, nanBits, ofBits, toBits, ofInt, toSigned}
 use Rattle.float.specs.Engine.{ieee}
 use Rattle.float.specs.Cos.{cosWord}
 use Rattle.float.specs.Atan.{atanNormWord, atanWord}
+use Rattle.float.specs.Atan2.{quarters, atan2Word}
 
-cos-zero : cosWord ieee 0 ≡ 0x3f80_0000
-unfolding cosWord add sub mul div lt nanBits ofBits toBits ofInt toSigned
-cos-zero = refl
+pub record Row : Type 0 where
+  pub answer : ℕ
+  pub is : ℕ
 
-atan-norm-one : atanNormWord ieee 0x3f80_0000 ≡ 0x3f00_0000
-unfolding atanNormWord add sub mul div lt nanBits ofBits toBits ofInt toSigned
-atan-norm-one = refl
+abbrev pub hold : List Row → Bool
+hold [] = true
+hold (r ∷ rs) = eqb (r .answer) (r .is) && hold rs
 
-atan-one : atanWord ieee 0x3f80_0000 ≡ 0x3f49_0fdb
-unfolding atanWord atanNormWord add sub mul div lt nanBits ofBits toBits ofInt toSigned
-atan-one = refl
+abbrev pub rows : List Row
+rows =
+    record { answer = cosWord ieee 0x0000_0000; is = 0x3f80_0000 }
+    ∷ record { answer = atanNormWord ieee 0x0000_0000; is = 0x0000_0000 }
+    ∷ record { answer = atanNormWord ieee 0x3f80_0000; is = 0x3f00_0000 }
+    ∷ record { answer = atanNormWord ieee 0xffc0_0000; is = 0x7fc0_0000 }
+    ∷ record { answer = atanWord ieee 0x0000_0000; is = 0x0000_0000 }
+    ∷ record { answer = atanWord ieee 0x3f80_0000; is = 0x3f49_0fdb }
+    ∷ record { answer = atan2Word 0x0000_0000 0x0000_0000; is = 0x7fc0_0000 }
+    ∷ []
+
+pub exact : T (hold rows)
+unfolding cosWord atanNormWord atanWord quarters atan2Word add sub mul div lt eq nanBits ofBits toBits ofInt toSigned
+exact = tt

@@ -1,6 +1,7 @@
 -- The definitions of this crate's own; those over the formats are in `format`.
 pub mod Engine
 pub mod Atan
+pub mod Atan2
 pub mod Cos
 pub mod Powi
 pub mod Raw

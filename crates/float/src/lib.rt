@@ -11,6 +11,7 @@ ghost use Rattle.format.specs.Exponent.{exponentValue, setExponentWord, isInteg
 
 pub mod abs;
 pub mod atan;
+pub mod atan2;
 pub mod cast;
 pub mod ceil;
 pub mod copysign;
