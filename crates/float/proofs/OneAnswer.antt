@@ -31,6 +31,7 @@ use Rattle.float.proofs.F32.sin.Reads as sin
 use Rattle.float.proofs.F32.atan_norm.Reads as atan-norm
 use Rattle.float.proofs.F32.atan.Reads as atan
 use Rattle.float.proofs.F32.atan2.Reads as atan2
+use Rattle.float.proofs.F32.exp.Reads as exp
 use Rattle.float.proofs.cast.from_i32.Reads as from-i32
 use Rattle.float.proofs.cast.from_u32.Reads as from-u32
 use Rattle.float.proofs.cast.bits_of_i32.Reads as bits-of-i32
@@ -162,6 +163,9 @@ module _ (κs : Lfts 0) where
 
   pub F32-atan2 : OneAnswer (atan2.Post κs) (λ r x. r .0)
   F32-atan2 = pinned _ (λ a r x p. p)
+
+  pub F32-exp : OneAnswer (exp.Post κs) (λ r x. r .0)
+  F32-exp = pinned _ (λ a r x p. p)
 
   -- ---- the kernels by number
   pub raw-operands : OneAnswer (operands.Post κs) (λ r x. r)

@@ -3,5 +3,6 @@ pub mod Engine
 pub mod Atan
 pub mod Atan2
 pub mod Cos
+pub mod Exp
 pub mod Powi
 pub mod Raw

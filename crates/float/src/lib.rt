@@ -16,6 +16,7 @@ pub mod cast;
 pub mod ceil;
 pub mod copysign;
 pub mod cos;
+pub mod exp;
 pub mod floor;
 pub mod fract;
 pub mod powi;
