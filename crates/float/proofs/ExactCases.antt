@@ -34,6 +34,9 @@ rows =
     ∷ record { answer = atanWord ieee 0x0000_0000; is = 0x0000_0000 }
     ∷ record { answer = atanWord ieee 0x3f80_0000; is = 0x3f49_0fdb }
     ∷ record { answer = atan2Word 0x0000_0000 0x0000_0000; is = 0x7fc0_0000 }
+    ∷ record { answer = atan2Word 0x0000_0000 0x8000_0000; is = 0x7fc0_0000 }
+    ∷ record { answer = atan2Word 0x8000_0000 0x0000_0000; is = 0x7fc0_0000 }
+    ∷ record { answer = atan2Word 0x8000_0000 0x8000_0000; is = 0x7fc0_0000 }
     ∷ []
 
 pub exact : T (hold rows)

@@ -8,3 +8,4 @@ pub mod Squaring
 pub mod Products
 pub mod OneAnswer
 pub mod ExactCases
+pub mod Nans

@@ -1,7 +1,7 @@
 -- `float::F32::atan2` meets its contract: each return is what the test picks. Assumes nothing.
 use borrow.Author.Needs.{needs}
 use Prim.Native.Nat.{ℕ}
-use mathlib.Core.Path.{_≡_, refl, sym, _∙_}
+use mathlib.Core.Path.{_≡_, _∙_}
 use mathlib.Core.Bool.{Bool, cond}
 use lib.Ieee.{Float, binary32, sub, mul, lt, ofBits, toBits}
 use Rattle.float.specs.Atan2.{quarters, atan2Word}
