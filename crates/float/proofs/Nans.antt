@@ -6,7 +6,7 @@ use lib.Ieee.{Float, binary32, nan, inf, fin, add, sub, mul, div, lt, eq, nanBit
 use Rattle.format.specs.Fields.{negative}
 use Rattle.format.specs.Parts.{written}
 use Rattle.format.proofs.Nan.{nan-read}
-use Rattle.float.specs.Engine.{ieee, size}
+use Rattle.float.specs.Engine.{ieee, absOf}
 use Rattle.float.specs.Cos.{cosWord, sinWord}
 use Rattle.float.specs.Atan.{signOr, quotient, firstQuadrant, atanNormWord, atanWord}
 use Rattle.float.specs.Atan2.{ratio, quarters, withinHalf, atan2Word}
@@ -88,9 +88,9 @@ div-left : (x : Float) → div binary32 nan x ≡ nan
 unfolding div
 div-left x = refl
 
-size-computed : size ieee nan ≡ nan
+abs-computed : absOf ieee nan ≡ nan
 unfolding ofBits toBits
-size-computed = refl
+abs-computed = refl
 
 -- a NaN above the line is enough
 quotient-nan : (a b c : Float) → add binary32 b c ≡ nan → quotient ieee a b c ≡ nan
@@ -100,7 +100,7 @@ ratio-of-y : (x : Float) → ratio nan x ≡ nan
 ratio-of-y x = quotient-nan _ _ _ (rw (mul-left nan) (add-right _))
 
 ratio-of-x : (y : Float) → ratio y nan ≡ nan
-ratio-of-x y = quotient-nan _ _ _ (rw (mul-right (ofBits binary32 0x3f18_a255), mul-left y, size-computed) (add-left _))
+ratio-of-x y = quotient-nan _ _ _ (rw (mul-right (ofBits binary32 0x3f18_a255), mul-left y, abs-computed) (add-left _))
 
 signed-computed : (s : Bool) → ofBits binary32 (signOr s (toBits binary32 nan)) ≡ nan
 unfolding ofBits toBits

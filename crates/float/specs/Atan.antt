@@ -3,7 +3,7 @@ use Prim.Native.Nat.{ℕ, _+_}
 use mathlib.Core.Bool.{Bool, cond, _||_}
 use lib.Ieee.{binary32, nanBits}
 use Rattle.format.specs.Fields.{negative, magnitude, signBit, nanWord}
-use Rattle.float.specs.Engine.{Engine, size}
+use Rattle.float.specs.Engine.{Engine, absOf}
 
 -- the sign bit s or-ed onto a word: one that is set stays
 abbrev pub signOr : Bool → ℕ → ℕ
@@ -20,7 +20,7 @@ module _ {X : Type 0} (e : Engine X) where
 
   -- 0x3f18_a255 is 0.596227
   abbrev pub firstQuadrant : X → X
-  firstQuadrant x = quotient (e .number 0x3f80_0000) (size e (e .mul (e .number 0x3f18_a255) x)) (e .mul x x)
+  firstQuadrant x = quotient (e .number 0x3f80_0000) (absOf e (e .mul (e .number 0x3f18_a255) x)) (e .mul x x)
 
   unfoldable pub atanNormWord : ℕ → ℕ
   atanNormWord w = signedAnswer (negative binary32 w) (e .word (firstQuadrant (e .number w)))

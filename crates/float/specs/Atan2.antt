@@ -4,7 +4,7 @@ use mathlib.Core.Bool.{cond}
 use lib.IntN.{pos}
 use lib.Ieee.{Float, binary32, unlike, add, sub, mul, lt, ofBits, toBits, ofInt}
 use Rattle.format.specs.Fields.{negative}
-use Rattle.float.specs.Engine.{ieee, size}
+use Rattle.float.specs.Engine.{ieee, absOf}
 use Rattle.float.specs.Atan.{signOr, quotient}
 
 -- where the quadrant starts, in quarter turns
@@ -13,7 +13,7 @@ offset y x = cond (negative binary32 x) 2 (cond (negative binary32 y) 4 0)
 
 -- the quotient, with b = |0.596227 * x * y|
 abbrev pub ratio : Float → Float → Float
-ratio y x = quotient ieee (mul binary32 x x) (size ieee (mul binary32 (mul binary32 (ofBits binary32 0x3f18_a255) x) y)) (mul binary32 y y)
+ratio y x = quotient ieee (mul binary32 x x) (absOf ieee (mul binary32 (mul binary32 (ofBits binary32 0x3f18_a255) x) y)) (mul binary32 y y)
 
 -- in quarter turns, from 0 to 4; the quotient counts backward where the signs differ
 unfoldable pub quarters : ℕ → ℕ → Float

@@ -24,8 +24,8 @@ ieee = record {
 }
 
 -- the two steps that read a number's bits
-abbrev pub size : {X : Type 0} → Engine X → X → X
-size e x = e .number (absWord binary32 (e .word x))
+abbrev pub absOf : {X : Type 0} → Engine X → X → X
+absOf e x = e .number (absWord binary32 (e .word x))
 
-abbrev pub floored : {X : Type 0} → Engine X → X → X
-floored e x = e .number (floorWord binary32 (e .word x))
+abbrev pub floorOf : {X : Type 0} → Engine X → X → X
+floorOf e x = e .number (floorWord binary32 (e .word x))

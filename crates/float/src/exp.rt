@@ -39,7 +39,7 @@ fn power(log: F32) -> F32
     scaled(part, exponent)
 }
 
-// E raised to a number from 0 to 1.
+// E raised to a number near 0, between -LN_2 and LN_2.
 fn series(s: f32) -> f32
     ensures { λ r. ⌜ r ≡ series s ⌝ }
 {
