@@ -2,7 +2,7 @@
 mod Leading
 mod Numbers
 mod Point
-mod Signs
+pub mod Signs
 mod Twos
 pub mod Squaring
 pub mod Products

@@ -1,4 +1,5 @@
--- The steps of atan_norm, atan and atan2, for every word: a quotient for the first quadrant, and the signs put on it as bits. Definitions only.
+-- The steps of atan_norm and atan, for every word, over any engine: a quotient for the first quadrant, and the sign put on it as a bit.
+-- Definitions only.
 use Prim.Native.Nat.{ℕ, _+_}
 use mathlib.Core.Bool.{Bool, cond, _||_}
 use lib.Ieee.{binary32, nanBits}
@@ -9,7 +10,7 @@ use Rattle.float.specs.Engine.{Engine, absOf}
 abbrev pub signOr : Bool → ℕ → ℕ
 signOr s w = signBit binary32 (s || negative binary32 w) + magnitude binary32 w
 
--- the same as an answer: of a NaN it is the one NaN
+-- the same as an answer: onto a NaN no sign is put, and it is the one NaN
 abbrev pub signedAnswer : Bool → ℕ → ℕ
 signedAnswer s w = cond (nanBits binary32 w) (nanWord binary32) (signOr s w)
 

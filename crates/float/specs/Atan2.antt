@@ -7,7 +7,7 @@ use Rattle.format.specs.Fields.{negative}
 use Rattle.float.specs.Engine.{ieee, absOf}
 use Rattle.float.specs.Atan.{signOr, quotient}
 
--- where the quadrant starts, in quarter turns
+-- from where the quotient counts, in quarter turns
 abbrev pub offset : ℕ → ℕ → ℕ
 offset y x = cond (negative binary32 x) 2 (cond (negative binary32 y) 4 0)
 

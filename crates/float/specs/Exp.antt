@@ -23,7 +23,7 @@ term s i total = add binary32 (ofBits binary32 0x3f80_0000) (mul binary32 (div b
 unfoldable pub series : Float → Float
 series s = term s 0x3f80_0000 (term s 0x4000_0000 (term s 0x4040_0000 (term s 0x4080_0000 (ofBits binary32 0x3f80_0000))))
 
--- a sum of two integers that stays at the end of the range which it passes
+-- an integer brought into the range of 32 bits: past either end, that end
 abbrev pub clipped : ℤ → ℤ
 clipped z = cond (ltZ (pos (2 ^ 31 - 1)) z) (pos (2 ^ 31 - 1)) (cond (ltZ z (negsuc (2 ^ 31 - 1))) (negsuc (2 ^ 31 - 1)) z)
 

@@ -30,7 +30,7 @@ fn quarters(y: F32, x: F32) -> f32
     cast::from_u32(offset(y, x)) + F32(sign | quotient.0).value()
 }
 
-// 0, 2 or 4: where the quadrant starts, in quarter turns.
+// 0, 2 or 4: from where the quotient counts, in quarter turns.
 fn offset(y: F32, x: F32) -> u32
     ensures { λ r. ⌜ r ≡ offset (y .0) (x .0) ⌝ }
 {
