@@ -3,8 +3,11 @@ mod Both
 mod Leading
 mod Numbers
 mod Point
+pub mod Signs
 mod Twos
 pub mod Squaring
 pub mod Products
 pub mod OneAnswer
 pub mod Examples
+pub mod ExactCases
+pub mod Nans

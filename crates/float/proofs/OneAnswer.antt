@@ -30,8 +30,15 @@ use Rattle.float.proofs.F32.invsqrt.Reads as invsqrt
 use Rattle.float.proofs.F32.recip.Reads as recip
 use Rattle.float.proofs.F32.ln.Reads as ln
 use Rattle.float.proofs.F32.hypot.Reads as hypot
+use Rattle.float.proofs.F32.cos.Reads as cos
 use Rattle.float.proofs.F32.powi.Reads as powi
+use Rattle.float.proofs.F32.powf.Reads as powf
 use Rattle.float.proofs.F32.signum.Reads as signum
+use Rattle.float.proofs.F32.sin.Reads as sin
+use Rattle.float.proofs.F32.atan_norm.Reads as atan-norm
+use Rattle.float.proofs.F32.atan.Reads as atan
+use Rattle.float.proofs.F32.atan2.Reads as atan2
+use Rattle.float.proofs.F32.exp.Reads as exp
 use Rattle.float.proofs.cast.from_i32.Reads as from-i32
 use Rattle.float.proofs.cast.from_u32.Reads as from-u32
 use Rattle.float.proofs.cast.bits_of_i32.Reads as bits-of-i32
@@ -164,8 +171,29 @@ module _ (κs : Lfts 0) where
   pub F32-hypot : OneAnswer (hypot.Post κs) (λ r x. r .0)
   F32-hypot = pinned _ (λ a r x p. p)
 
+  pub F32-powf : OneAnswer (powf.Post κs) (λ r x. r .0)
+  F32-powf = pinned _ (λ a r x p. p)
+
   pub F32-powi : OneAnswer (powi.Post κs) (λ r x. r .0)
   F32-powi = pinned _ (λ a r x p. p)
+
+  pub F32-cos : OneAnswer (cos.Post κs) (λ r x. r .0)
+  F32-cos = pinned _ (λ a r x p. p)
+
+  pub F32-sin : OneAnswer (sin.Post κs) (λ r x. r .0)
+  F32-sin = pinned _ (λ a r x p. p)
+
+  pub F32-atan-norm : OneAnswer (atan-norm.Post κs) (λ r x. r .0)
+  F32-atan-norm = pinned _ (λ a r x p. p)
+
+  pub F32-atan : OneAnswer (atan.Post κs) (λ r x. r .0)
+  F32-atan = pinned _ (λ a r x p. p)
+
+  pub F32-atan2 : OneAnswer (atan2.Post κs) (λ r x. r .0)
+  F32-atan2 = pinned _ (λ a r x p. p)
+
+  pub F32-exp : OneAnswer (exp.Post κs) (λ r x. r .0)
+  F32-exp = pinned _ (λ a r x p. p)
 
   -- ---- the kernels by number
   pub raw-operands : OneAnswer (operands.Post κs) (λ r x. r)

@@ -1,0 +1,30 @@
+// The arctangent of a number, in radians and as a share of a quarter turn, by a quotient of parabolas.
+ghost use mathlib.Core.Path.{_≡_};
+ghost use Rattle.float.specs.Engine.{ieee};
+ghost use Rattle.float.specs.Atan.{atanNormWord, atanWord};
+use crate::F32;
+
+// 0.596227, by which the curve bends.
+pub const BEND: F32 = F32(0x3f18_a255);
+
+impl F32 {
+    pub fn atan(self) -> F32
+        ensures { λ r. ⌜ r .0 ≡ atanWord ieee (self .0) ⌝ }
+    {
+        F32::of(F32::FRAC_PI_2.value() * self.atan_norm().value())
+    }
+
+    // From -1 to 1: the quotient is found without the sign, which is or-ed onto it.
+    pub fn atan_norm(self) -> F32
+        ensures { λ r. ⌜ r .0 ≡ atanNormWord ieee (self .0) ⌝ }
+    {
+        let x = self.value();
+        let bent = F32::of(BEND.value() * x).abs().value();
+        let n = bent + x * x;
+        let quotient = F32::of(n / (1.0 + bent + n));
+        if quotient.is_nan() {
+            return F32::NAN;
+        }
+        F32((self.0 & F32::SIGN_MASK) | quotient.0)
+    }
+}
