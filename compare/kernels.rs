@@ -6,6 +6,7 @@ use micromath::{helpers, F32};
 #[link(name = "dampmeadow", kind = "static")]
 extern "C" {
     fn dampmeadow_words(op: u32, a: u32, b: u32) -> u64;
+    fn dampmeadow_atan_norm(a: u32) -> u32;
 }
 
 #[link(name = "probe", kind = "static")]
@@ -87,6 +88,19 @@ fn f(w: u32) -> F32 {
     F32::from_bits(w)
 }
 
+/// powf's words for which a NaN reaches exp: the product of the power and the logarithm is one.
+fn nan_reaches_exp(a: u32, b: u32) -> bool {
+    let (x, n) = (f(a), f(b));
+    let base = if x.0 >= 0.0 {
+        x
+    } else if helpers::is_integer(n) {
+        helpers::without_sign(x)
+    } else {
+        return false;
+    };
+    (n.0 * base.ln().0).is_nan()
+}
+
 /// A raw kernel: ours is the call by number, which must not refuse.
 macro_rules! raw {
     ($number:literal, $name:literal, $takes:ident, $agree:ident, $theirs:expr) => {
@@ -118,6 +132,16 @@ pub fn all() -> Vec<Kernel> {
         raw!(0x8a, "invsqrt", One, Exact, |a, _| f(a).invsqrt().to_bits()),
         raw!(0x8b, "inv", One, Exact, |a, _| f(a).inv().to_bits()),
         raw!(0x8c, "recip", One, Nan, |a, _| f(a).recip().to_bits()),
+        raw!(0x8d, "exp", One, Nan, |a, _| f(a).exp().to_bits(), |a, _| is_nan(a)),
+        raw!(0x8e, "ln", One, Nan, |a, _| f(a).ln().to_bits()),
+        raw!(0x8f, "powi", Power, Nan, |a, b| f(a).powi(b as i32).to_bits(), |_, b| b as i32 == i32::MIN),
+        raw!(0x90, "powf", Two, Nan, |a, b| f(a).powf(f(b)).to_bits(), nan_reaches_exp),
+        raw!(0x91, "atan", One, Nan, |a, _| f(a).atan().to_bits()),
+        raw!(0x92, "atan2", Two, Nan, |a, b| f(a).atan2(f(b)).to_bits()),
+        raw!(0x93, "cos", One, Nan, |a, _| f(a).cos().to_bits()),
+        raw!(0x94, "sin", One, Nan, |a, _| f(a).sin().to_bits()),
+        raw!(0x95, "hypot", Two, Nan, |a, b| f(a).hypot(f(b)).to_bits()),
+        helper!("atan_norm", One, Nan, |a, _| f(a).atan_norm().to_bits(), |a, _| unsafe { dampmeadow_atan_norm(a) as u64 }),
         helper!("cast to i32", One, Exact, |a, _| f(a).0 as i32 as u32, |a, _| unsafe { probe_to_i32(a) as u32 as u64 }),
         helper!("cast from i32", One, Exact, |a, _| (a as i32 as f32).to_bits(), |a, _| unsafe { probe_from_i32(a as i32) as u64 }),
         helper!("cast from u32", One, Exact, |a, _| (a as f32).to_bits(), |a, _| unsafe { probe_from_u32(a) as u64 }),

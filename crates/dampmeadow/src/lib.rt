@@ -1,6 +1,9 @@
 // The exported calls, for C and Rust.
 ghost use mathlib.Core.Path.{_≡_};
+ghost use Rattle.float.specs.Engine.{ieee};
+ghost use Rattle.float.specs.Atan.{atanNormWord};
 ghost use Rattle.dampmeadow.specs.Words.{wordsOf};
+use float::F32;
 
 // What a frame with this operation and these two words answers: the refusal number in the high 32
 // bits and the word in the low 32. An operation that is not there is refused with 6, and a second
@@ -23,6 +26,14 @@ pub extern "C" fn dampmeadow_words(op: u32, a: u32, b: u32) -> u64
         }
     }
     float::raw::answer(number, a, b) as u64
+}
+
+// atan_norm, which has no operation number: the arctangent as a share of a quarter turn.
+#[no_mangle]
+pub extern "C" fn dampmeadow_atan_norm(a: u32) -> u32
+    ensures { λ r. ⌜ r ≡ atanNormWord ieee a ⌝ }
+{
+    F32(a).atan_norm().0
 }
 
 // Refusals 6 and 7, each with the zero word.

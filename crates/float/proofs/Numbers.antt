@@ -19,5 +19,5 @@ past (suc k) n r = ⊎-elim (λ e. inl e) (λ h. inr (next k n h (r .1))) (past 
     next : (k n : ℕ) → k < n → (n ≡ suc k → ⊥) → suc k < n
     next k n h d = omega arith
 
-pub unlisted : (n : ℕ) → NoneTo 12 n → kernelOf n ≡ none
-unlisted n r = ⊎-elim (λ e. ap kernelOf e) (λ h. List·getD-eq-default kernels none h) (past 12 n r)
+pub unlisted : (n : ℕ) → NoneTo 21 n → kernelOf n ≡ none
+unlisted n r = ⊎-elim (λ e. ap kernelOf e) (λ h. List·getD-eq-default kernels none h) (past 21 n r)

@@ -3,11 +3,22 @@ use Prim.Native.Nat.{ℕ}
 use mathlib.Core.List.{List, [], _∷_}
 use lib.ListN.{getD}
 use lib.Ieee.{binary32}
+use mir.Syntax.{w32}
+use mir.Val.{toZ}
 use Rattle.format.specs.Sign.{absWord, copysignWord, signumWord}
 use Rattle.format.specs.Parts.{truncWord, fractWord}
 use Rattle.format.specs.Whole.{floorWord, ceilWord, roundWord}
 use Rattle.format.specs.Estimates.{sqrtWord, invWord, invsqrtWord}
 use Rattle.float.specs.Recip.{recipWord}
+use Rattle.float.specs.Engine.{ieee}
+use Rattle.float.specs.Exp.{expWord}
+use Rattle.float.specs.Ln.{lnWord}
+use Rattle.float.specs.Powi.{powiWord}
+use Rattle.float.specs.Powf.{powfWord}
+use Rattle.float.specs.Atan.{atanWord}
+use Rattle.float.specs.Atan2.{atan2Word}
+use Rattle.float.specs.Cos.{cosWord, sinWord}
+use Rattle.float.specs.Hypot.{hypotWord}
 
 pub data Kernel : Type 0 where
   none : Kernel
@@ -30,6 +41,15 @@ kernels =
     ∷ one invsqrtWord
     ∷ one (invWord binary32)
     ∷ one recipWord
+    ∷ one expWord
+    ∷ one lnWord
+    ∷ two (λ a b. powiWord a (toZ w32 b))
+    ∷ two powfWord
+    ∷ one (atanWord ieee)
+    ∷ two atan2Word
+    ∷ one (cosWord ieee)
+    ∷ one (sinWord ieee)
+    ∷ two hypotWord
     ∷ []
 
 abbrev pub kernelOf : ℕ → Kernel

@@ -1,7 +1,9 @@
 -- `float::raw::answer` meets its contract: each arm is one entry of the list of kernels. Assumes nothing.
 use borrow.Author.Needs.{needs}
 use mathlib.Core.Path.{sym, ap, _∙_}
+use mir.Facts.{toZ-ofZ}
 use Rattle.float.specs.Raw.{Kernel, rawOf}
+use Rattle.float.specs.Powi.{powiWord}
 use Rattle.float.proofs.Numbers.{unlisted}
 use Rattle.float.proofs.raw.answer.Statement.{statement}
 use Rattle.float.proofs.raw.answer.Tie as tie
@@ -10,6 +12,16 @@ pub answer-spec : {M : Type 1} → statement M
 answer-spec =
     tie.close
     (tie.spec
+    (λ c κs. search needs)
+    (λ c κs. search needs)
+    (λ c κs. search needs)
+    (λ c κs. search needs)
+    (λ c κs. search needs)
+    (λ c κs. search needs)
+    (λ c κs. search needs)
+    (λ c κs. search needs)
+    (λ c κs. search needs)
+    (λ c κs. search needs)
     (λ c κs. search needs)
     (λ c κs. search needs)
     (λ c κs. search needs)
@@ -34,6 +46,18 @@ answer-spec =
     (λ c. c .invsqrt .ensures .0 ∙ rw (c .before .match .keys10))
     (λ c. c .inv .ensures .0 ∙ rw (c .before .match .keys11))
     (λ c. c .recip .ensures ∙ rw (c .before .match .keys12))
+    (λ c. c .exp .ensures ∙ rw (c .before .match .keys13))
+    (λ c. c .ln .ensures ∙ rw (c .before .match .keys14))
+    (λ c.
+    c .powi .ensures
+    ∙ ap (powiWord (c .before .before .before .args .a)) (toZ-ofZ (record { sfits = c .before .i32-of-bits .ok }) ∙ c .before .i32-of-bits .ensures)
+    ∙ rw (c .before .before .match .keys15))
+    (λ c. c .powf .ensures ∙ rw (c .before .match .keys16))
+    (λ c. c .atan .ensures ∙ rw (c .before .match .keys17))
+    (λ c. c .atan2 .ensures ∙ rw (c .before .match .keys18))
+    (λ c. c .cos .ensures ∙ rw (c .before .match .keys19))
+    (λ c. c .sin .ensures ∙ rw (c .before .match .keys20))
+    (λ c. c .hypot .ensures ∙ rw (c .before .match .keys21))
     (λ c.
     let a = c .before .args in
     sym (ap (λ (k : Kernel). rawOf k (a .a) (a .b)) (unlisted (a .number) (c .match .rest)))))
