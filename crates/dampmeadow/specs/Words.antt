@@ -2,7 +2,7 @@
 use Prim.Native.Nat.{ℕ, _-_, _*_, _^_}
 use mathlib.Core.Bool.{cond}
 use lib.Dec.{leb, eqb}
-use Rattle.float.specs.Raw.{Kernel, none, one, two, kernelOf}
+use Rattle.raw.specs.Raw.{Kernel, none, one, two, kernelOf}
 
 -- a refusal's word is 0
 abbrev pub refused : ℕ → ℕ

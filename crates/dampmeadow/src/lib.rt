@@ -16,7 +16,7 @@ pub extern "C" fn dampmeadow_words(op: u32, a: u32, b: u32) -> u64
         return NO_SUCH_OPERATION;
     }
     let number = op - 0x80;
-    let operands = float::raw::operands(number);
+    let operands = raw::operands(number);
     if operands == 0 {
         return NO_SUCH_OPERATION;
     }
@@ -25,7 +25,7 @@ pub extern "C" fn dampmeadow_words(op: u32, a: u32, b: u32) -> u64
             return MALFORMED;
         }
     }
-    float::raw::answer(number, a, b) as u64
+    raw::answer(number, a, b) as u64
 }
 
 // atan_norm, which has no operation number: the arctangent as a share of a quarter turn.

@@ -1,13 +1,13 @@
 -- What belongs to no one function.
 mod Both
 mod Leading
-mod Numbers
 mod Point
 pub mod Signs
 mod Twos
 pub mod Squaring
 pub mod Products
 pub mod OneAnswer
+pub mod Rows
 pub mod Examples
 pub mod ExactCases
 pub mod Nans

@@ -43,8 +43,6 @@ use Rattle.float.proofs.cast.from_i32.Reads as from-i32
 use Rattle.float.proofs.cast.from_u32.Reads as from-u32
 use Rattle.float.proofs.cast.bits_of_i32.Reads as bits-of-i32
 use Rattle.float.proofs.cast.i32_of_bits.Reads as i32-of-bits
-use Rattle.float.proofs.raw.operands.Reads as operands
-use Rattle.float.proofs.raw.answer.Reads as answer
 use Rattle.float.proofs.wrap.sum.Reads as sum
 use Rattle.float.proofs.wrap.difference.Reads as difference
 use Rattle.float.proofs.wrap.product.Reads as product
@@ -194,10 +192,3 @@ module _ (κs : Lfts 0) where
 
   pub F32-exp : OneAnswer (exp.Post κs) (λ r x. r .0)
   F32-exp = pinned _ (λ a r x p. p)
-
-  -- ---- the kernels by number
-  pub raw-operands : OneAnswer (operands.Post κs) (λ r x. r)
-  raw-operands = pinned _ (λ a r x p. p)
-
-  pub raw-answer : OneAnswer (answer.Post κs) (λ r x. r)
-  raw-answer = pinned _ (λ a r x p. p)

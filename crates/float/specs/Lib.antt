@@ -5,7 +5,6 @@ pub mod Atan2
 pub mod Cos
 pub mod Exp
 pub mod Powi
-pub mod Raw
 pub mod Rounded
 pub mod Recip
 pub mod Hypot

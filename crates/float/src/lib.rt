@@ -25,7 +25,6 @@ pub mod invsqrt;
 pub mod ln;
 pub mod powf;
 pub mod powi;
-pub mod raw;
 pub mod recip;
 pub mod round;
 pub mod signum;

@@ -5,7 +5,7 @@ use Prim.Native.Nat.{ℕ, _-_, _≤_}
 use mathlib.Core.Path.{_≡_, refl, sym, ap, _∙_}
 use mathlib.Core.Logic.{⊎-elim}
 use native.Mathlib.Omega.{arith}
-use Rattle.float.specs.Raw.{Kernel, none, one, two, kernelOf, operandsOf, rawOf}
+use Rattle.raw.specs.Raw.{Kernel, none, one, two, kernelOf, operandsOf, rawOf}
 use Rattle.dampmeadow.specs.Words.{refused, judged, wordsOf}
 use Rattle.dampmeadow.proofs.dampmeadow_words.Statement.{statement}
 use Rattle.dampmeadow.proofs.dampmeadow_words.Tie as tie

@@ -1,0 +1,2 @@
+-- Which kernel stands under which number.
+pub mod Raw
