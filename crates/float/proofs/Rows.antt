@@ -5,7 +5,6 @@ use mathlib.Core.List.{List, [], _∷_}
 use lib.Dec.{eqb}
 
 infix 70 _gives_
-
 pub data Row : Type 0 where
   _gives_ : ℕ → ℕ → Row
 
