@@ -5,7 +5,7 @@ use lib.Bits.{bitAnd}
 use lib.Pow.{mod-mod-pow}
 use lib.Ieee.{binary32, emax, hid}
 use Rattle.format.specs.Fields.{exponent}
-use Rattle.format.specs.Parts.{places}
+use Rattle.format.specs.Exponent.{places}
 use Rattle.format.proofs.Masks.{only-fraction}
 
 pub masked : (w n s : ℕ) → n ≡ exponent binary32 w - emax binary32 → s ≡ w * 2 ^ (n % 32) % 2 ^ 32 → bitAnd s 0x007f_ffff ≡ w * 2 ^ places binary32 w % hid binary32

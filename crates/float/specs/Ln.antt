@@ -18,9 +18,9 @@ isAboutOne x = lt (number (absWord binary32 (toBits binary32 (x ⊖ number 0x3f8
 -- -1.7417939 + (2.8212026 + (-1.4699568 + (0.44717955 - 0.056570851 * z) * z) * z) * z
 unfoldable pub polynomial : Float → Float
 polynomial z =
-    let a = neg (number 0x3fde_f31a) in
+    let a = number 0xbfde_f31a in
     let b = number 0x4034_8e95 in
-    let c = neg (number 0x3fbc_278b) in
+    let c = number 0xbfbc_278b in
     let d = number 0x3ee4_f4b8 in
     let e = number 0x3d67_b6d6 in
     a ⊕ (b ⊕ (c ⊕ (d ⊖ e ⊗ z) ⊗ z) ⊗ z) ⊗ z

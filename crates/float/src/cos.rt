@@ -7,6 +7,9 @@ use crate::F32;
 // Half of 1/PI: one turn is 2 PI.
 const TURN: F32 = F32(0x3e22_f983);
 
+// 0.225, the share of the parabola's own square that mends it.
+const MENDS: F32 = F32(0x3e66_6666);
+
 impl F32 {
     pub fn cos(self) -> F32
         ensures { λ r. ⌜ r .0 ≡ cosWord ieee (self .0) ⌝ }
@@ -17,6 +20,6 @@ impl F32 {
         let distance = F32::of(part).abs().value();
         let curve = part * (16.0 * (distance - 0.5));
         let height = F32::of(curve).abs().value();
-        F32::of(curve + 0.225 * curve * (height - 1.0))
+        F32::of(curve + MENDS.value() * curve * (height - 1.0))
     }
 }

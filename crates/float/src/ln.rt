@@ -5,6 +5,18 @@ ghost use Rattle.float.specs.Ln.{polynomial, logarithm, lnWord};
 use crate::F32;
 use crate::cast;
 
+// The polynomial's numbers, which Remez's algorithm made: about -1.7417939, 2.8212026, -1.4699568,
+// 0.44717955 and 0.056570851.
+const P0: F32 = F32(0xbfde_f31a);
+
+const P1: F32 = F32(0x4034_8e95);
+
+const P2: F32 = F32(0xbfbc_278b);
+
+const P3: F32 = F32(0x3ee4_f4b8);
+
+const P4: F32 = F32(0x3d67_b6d6);
+
 impl F32 {
     pub fn ln(self) -> F32
         ensures steps { λ r. ⌜ r .0 ≡ lnWord (self .0) ⌝ }
@@ -29,10 +41,10 @@ fn logarithm(x: F32) -> f32
     power * F32::LN_2.value() + polynomial(rest)
 }
 
-// The logarithm of z from 1 to 2. The numbers are those of https://stackoverflow.com/a/44232045/, made
-// by Remez's algorithm.
+// The logarithm of z from 1 to 2.
 fn polynomial(z: f32) -> f32
     ensures { λ r. ⌜ r ≡ polynomial z ⌝ }
 {
-    -1.741_793_9 + (2.821_202_6 + (-1.469_956_8 + (0.447_179_55 - 0.056_570_851 * z) * z) * z) * z
+    let inner = P2.value() + (P3.value() - P4.value() * z) * z;
+    P0.value() + (P1.value() + inner * z) * z
 }

@@ -1,5 +1,6 @@
 // The whole part of a number, with the number's sign bit: the bits below the point are dropped. For
-// |x| under 2^32 that is IEEE 754's meaning (`IsTrunc`); beyond, the shifts wrap.
+// |x| under 2^32 that is IEEE 754's meaning (`IsTrunc`), and with fract it sums to the number exactly
+// (`parts-sum` of format's proofs/PartsMeaning.antt); beyond, the shifts wrap.
 ghost use mathlib.Core.Path.{_≡_};
 ghost use lib.Ieee.{binary32};
 ghost use Rattle.format.specs.Parts.{truncWord};

@@ -13,8 +13,9 @@ use lib.Ieee.{Format, binary32, binary64, prec, emax, low, hid, ones, top, size}
 use lib.Ieee.Digits.{size-lt, size-le, size-reaches}
 use lib.Ieee.Fits.{two}
 use Rattle.format.specs.Fields.{width, negative, magnitude, exponent, fraction, signBit}
+use Rattle.format.specs.Exponent.{places}
 use Rattle.format.specs.Value.{unitsAt, units, Finite}
-use Rattle.format.specs.Parts.{places, belowPoint, truncWord, fractWord, written}
+use Rattle.format.specs.Parts.{belowPoint, truncWord, fractWord, written}
 use Rattle.format.specs.Meaning.{IsTrunc, IsFract, Under32}
 use Rattle.format.proofs.Fields.{hid-pos, Made, made, three-fields, exponent-lt, fraction-lt}
 use Rattle.format.proofs.Parts.{moved-up, fraction-written}

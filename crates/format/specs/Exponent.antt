@@ -19,10 +19,13 @@ moved f n = n * hid f % (2 * top f)
 abbrev pub setExponentWord : Format → ℕ → ℕ → ℕ
 setExponentWord f w n = signBit f (negative f w || negative f (moved f n)) + moved f n % top f + fraction f w
 
--- Whether no bit of the fraction is left below the point once it is moved up by the exponent. A negative exponent counts as 0,
--- so 0.5 is whole, and a count is taken modulo the word's width.
+-- by how many places the exponent moves the point up: none where it is negative; a count is taken modulo the word's width
+abbrev pub places : Format → ℕ → ℕ
+places f w = (exponent f w - emax f) % width f
+
+-- Whether no bit of the fraction is left below the point once it is moved up by those places. So 0.5 is whole.
 abbrev pub isIntegerWord : Format → ℕ → Bool
-isIntegerWord f w = eqb (w * 2 ^ ((exponent f w - emax f) % width f) % hid f) 0
+isIntegerWord f w = eqb (w * 2 ^ places f w % hid f) 0
 
 -- Whether the cast to a 32-bit integer is even; from 2 ^ 31 on every value is called even, and a NaN or an infinity too.
 abbrev pub isEvenWord : Format → ℕ → Bool

@@ -3,11 +3,8 @@ use Prim.Native.Nat.{ℕ, _+_, _-_, _*_, _/_, _%_, _^_}
 use mathlib.Core.Bool.{cond}
 use lib.Dec.{ltb}
 use lib.Ieee.{Format, prec, emax, hid, size}
-use Rattle.format.specs.Fields.{width, negative, exponent, signBit}
-
--- by how many places the exponent moves the point up, where it is not negative; a count is taken modulo the word's width
-abbrev pub places : Format → ℕ → ℕ
-places f w = (exponent f w - emax f) % width f
+use Rattle.format.specs.Fields.{negative, exponent, signBit}
+use Rattle.format.specs.Exponent.{places}
 
 -- the bits of the word below the point
 abbrev pub belowPoint : Format → ℕ → ℕ

@@ -10,11 +10,13 @@ use lib.Bits.{bitAnd}
 use lib.Dec.{lit<}
 use lib.Ieee.{binary32}
 use Rattle.format.specs.Fields.{exponent, negative, signBit}
-use Rattle.format.specs.Parts.{places, belowPoint, written, fractWord}
+use Rattle.format.specs.Parts.{belowPoint, written, fractWord}
+use Rattle.format.specs.Exponent.{places}
 use Rattle.format.proofs.Parts.{moved-up}
 use Rattle.float.proofs.Leading.{Lead, lead, rebuilt}
 use Rattle.float.proofs.Point.{masked}
 use Rattle.format.specs.Meaning.{IsFract}
+use Rattle.format.specs.Exponent.{places}
 use Rattle.format.proofs.PartsMeaning.{fract-under32}
 use Rattle.float.proofs.Both.{both}
 use Rattle.float.proofs.F32.fract.Statement.{statement}

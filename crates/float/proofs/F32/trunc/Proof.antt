@@ -6,10 +6,12 @@ use native.Mathlib.Nat.{add-zero, mod-le}
 use mathlib.Core.Path.{_≡_, sym, ap, subst, _∙_}
 use lib.Ieee.{binary32}
 use Rattle.format.specs.Fields.{exponent, negative, signBit}
-use Rattle.format.specs.Parts.{places, belowPoint}
+use Rattle.format.specs.Parts.{belowPoint}
+use Rattle.format.specs.Exponent.{places}
 use Rattle.format.proofs.Parts.{back-down}
 use Rattle.float.proofs.Point.{masked}
 use Rattle.format.specs.Meaning.{IsTrunc}
+use Rattle.format.specs.Exponent.{places}
 use Rattle.format.proofs.PartsMeaning.{trunc-under32}
 use Rattle.float.proofs.Both.{both}
 use Rattle.float.proofs.F32.trunc.Statement.{statement}
