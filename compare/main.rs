@@ -45,6 +45,7 @@ fn main() {
     let chosen: Vec<&Kernel> = all.iter().filter(|k| wanted.only.is_empty() || k.number.is_some_and(|n| wanted.only.contains(&n))).collect();
 
     if wanted.speed {
+        println!("{}", speed::heading());
         for kernel in &chosen {
             println!("{}", speed::line(kernel));
         }
