@@ -66,6 +66,11 @@ impl Kernel {
         }
     }
 
+    /// What `--only` calls it: its number, or its name where it has none.
+    pub fn key(&self) -> String {
+        self.number.map_or(self.name.to_string(), |n| format!("{n:02x}"))
+    }
+
     /// Whether both answer the same to these words.
     #[inline(always)]
     pub fn same(&self, a: u32, b: u32) -> bool {

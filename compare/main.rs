@@ -11,7 +11,8 @@ use std::process::exit;
 struct Wanted {
     every: bool,
     speed: bool,
-    only: Vec<u32>,
+    /// Operation numbers, and names of what has none; empty for all.
+    only: Vec<String>,
 }
 
 fn wanted() -> Result<Wanted, String> {
@@ -21,11 +22,7 @@ fn wanted() -> Result<Wanted, String> {
         match arg.as_str() {
             "--every" => wanted.every = true,
             "--speed" => wanted.speed = true,
-            "--only" => {
-                for number in args.next().unwrap_or_default().split(',') {
-                    wanted.only.push(u32::from_str_radix(number, 16).map_err(|_| format!("{number:?} is no operation number"))?);
-                }
-            }
+            "--only" => wanted.only.extend(args.next().unwrap_or_default().split(',').map(String::from)),
             _ => return Err(format!("no such option: {arg}")),
         }
     }
@@ -38,11 +35,11 @@ fn main() {
         exit(2)
     });
     let all = kernels::all();
-    if let Some(number) = wanted.only.iter().find(|n| !all.iter().any(|k| k.number == Some(**n))) {
-        eprintln!("compare: no kernel here has the number {number:02x}");
+    if let Some(key) = wanted.only.iter().find(|key| !all.iter().any(|k| k.key() == **key)) {
+        eprintln!("compare: nothing here has the number or name {key:?}");
         exit(2);
     }
-    let chosen: Vec<&Kernel> = all.iter().filter(|k| wanted.only.is_empty() || k.number.is_some_and(|n| wanted.only.contains(&n))).collect();
+    let chosen: Vec<&Kernel> = all.iter().filter(|k| wanted.only.is_empty() || wanted.only.contains(&k.key())).collect();
 
     if wanted.speed {
         println!("{}", speed::heading());
