@@ -1,0 +1,8 @@
+-- What belongs to no one function.
+mod Lists
+mod Gives
+pub mod First
+pub mod Open
+pub mod NoNan
+mod Guards
+pub mod Meaning

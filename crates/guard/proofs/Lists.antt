@@ -1,0 +1,45 @@
+-- A number that is a key of a `match`, or none of the keys before its last arm, is or is not in the list of them. Assumes nothing.
+use Prim.Native.Nat.{ℕ}
+use mathlib.Core.Path.{_≡_, refl, sym, ap, _∙_}
+use mathlib.Core.Logic.{_⊎_, inl, inr}
+use mathlib.Core.Bool.{Bool, true, false, _||_}
+use mathlib.Core.List.{List, [], _∷_}
+use borrow.Author.Tests.{eq-eqb, ne-eqb}
+use lib.Dec.{eqb}
+use types.Run.{OneOf}
+use Rattle.guard.specs.Operations.{among}
+
+-- what the last arm knows beside N: the number is none of the keys
+abbrev NoneOf : Type 0 → List ℕ → ℕ → Type 0
+NoneOf N [] x = N
+NoneOf N (k ∷ ks) x = NoneOf (N × (x ≡ k → ⊥)) ks x
+
+kept : (N : Type 0) (ks : List ℕ) (x : ℕ) → NoneOf N ks x → N
+kept N [] x r = r
+kept N (k ∷ ks) x r = kept (N × (x ≡ k → ⊥)) ks x r .0
+
+missing : (N : Type 0) (ks : List ℕ) (x : ℕ) → NoneOf N ks x → among ks x ≡ false
+missing N [] x r = refl
+missing N (k ∷ ks) x r = rw (ne-eqb x k (kept (N × (x ≡ k → ⊥)) ks x r .1)) (missing (N × (x ≡ k → ⊥)) ks x r)
+
+pub unlisted : (ks : List ℕ) (x : ℕ) → NoneOf (Unit {0}) ks x → among ks x ≡ false
+unlisted = missing (Unit {0})
+
+or-true : (b : Bool) → (b || true) ≡ true
+or-true true = refl
+or-true false = refl
+
+pub listed : (ks : List ℕ) (x : ℕ) → OneOf ks x → among ks x ≡ true
+listed [] x h = absurd h
+listed (k ∷ []) x h = rw (eq-eqb x k h)
+listed (k ∷ l ∷ ks) x (inl h) = rw (eq-eqb x k h)
+listed (k ∷ l ∷ ks) x (inr h) = ap (λ (t : Bool). eqb x k || t) (listed (l ∷ ks) x h) ∙ or-true (eqb x k)
+
+-- the same of one arm with all the keys
+any-key : (k : ℕ) (ks : List ℕ) (x : ℕ) → (OneOf (k ∷ ks) x → ⊥) → among (k ∷ ks) x ≡ false
+any-key k [] x n = rw (ne-eqb x k n)
+any-key k (l ∷ ks) x n = rw (ne-eqb x k (λ e. n (inl e))) (any-key l ks x (λ h. n (inr h)))
+
+pub none-listed : (ks : List ℕ) (x : ℕ) → (OneOf ks x → ⊥) → among ks x ≡ false
+none-listed [] x n = refl
+none-listed (k ∷ ks) x n = any-key k ks x n

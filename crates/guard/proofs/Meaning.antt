@@ -1,0 +1,64 @@
+-- An answered guarded call has its meaning or its bound, with no side condition left: the gate has seen to it. Assumes nothing.
+use Prim.Native.Nat.{ℕ, _^_, _<_}
+use mathlib.Core.Path.{_≡_}
+use lib.Ieee.{binary32}
+use Rattle.format.specs.Meaning.{IsTrunc, IsFract, IsFloor, IsCeil, IsRound}
+use Rattle.format.specs.Estimates.{Normal, SqrtBound, InvBound, InvsqrtBound, InvsqrtTight}
+use Rattle.format.proofs.PartsMeaning.{trunc-under32, fract-under32}
+use Rattle.format.proofs.FloorMeaning.{floor-is, ceil-is}
+use Rattle.format.proofs.RoundMeaning.{round-is-nearest}
+use Rattle.format.proofs.Sqrt.{sqrt-bound}
+use Rattle.format.proofs.Inv.{inv-bound}
+use Rattle.format.proofs.Invsqrt.{invsqrt-bound, invsqrt-tight}
+use Rattle.guard.specs.declared.Answer.{Answer}
+use Rattle.guard.specs.Operations.{opTrunc, opFract, opFloor, opCeil, opRound, opSqrt, opInvsqrt, opInv}
+use Rattle.guard.specs.Gates.{judged}
+use Rattle.guard.specs.Guarded.{wordOf, Answered, Guards}
+use Rattle.guard.proofs.Gives.{answered-none, answered-word}
+use Rattle.guard.proofs.Open.{Open, opened, normal-of}
+use Rattle.guard.proofs.NoNan.{under32, to31, under23, invertible}
+
+-- the gate is open to the operands of an answered call
+open-to : (op a b : ℕ) (r : Answer) → Guards op a b r → Answered r → Open op a b
+open-to op a b r g h = opened op a b (answered-none g h)
+
+module _ (a b : ℕ) (r : Answer) where
+  pub trunc-means : a < 2 ^ 32 → Guards opTrunc a b r → Answered r → IsTrunc binary32 a (wordOf r)
+  unfolding judged
+  trunc-means k g h = rw (answered-word g h) (trunc-under32 a k (under32 a (open-to opTrunc a b r g h .gate)))
+
+  pub fract-means : Guards opFract a b r → Answered r → IsFract binary32 a (wordOf r)
+  unfolding judged
+  fract-means g h = rw (answered-word g h) (fract-under32 a (under32 a (open-to opFract a b r g h .gate)))
+
+  pub floor-means : Guards opFloor a b r → Answered r → IsFloor binary32 a (wordOf r)
+  unfolding judged
+  floor-means g h = rw (answered-word g h) (floor-is a (to31 a (open-to opFloor a b r g h .gate)))
+
+  pub ceil-means : Guards opCeil a b r → Answered r → IsCeil binary32 a (wordOf r)
+  unfolding judged
+  ceil-means g h = rw (answered-word g h) (ceil-is a (to31 a (open-to opCeil a b r g h .gate)))
+
+  pub round-means : Guards opRound a b r → Answered r → IsRound binary32 a (wordOf r)
+  unfolding judged
+  round-means g h = rw (answered-word g h) (round-is-nearest a (under23 a (open-to opRound a b r g h .gate)))
+
+  -- ---- the estimates
+
+  sqrt-normal : Guards opSqrt a b r → Answered r → Normal binary32 a
+  sqrt-normal g h = let o = open-to opSqrt a b r g h in normal-of a (o .first) (o .black) (o .sign)
+
+  pub sqrt-bounded : Guards opSqrt a b r → Answered r → SqrtBound binary32 a (wordOf r)
+  sqrt-bounded g h = rw (answered-word g h) (sqrt-bound binary32 a (sqrt-normal g h))
+
+  invsqrt-normal : Guards opInvsqrt a b r → Answered r → Normal binary32 a
+  invsqrt-normal g h = let o = open-to opInvsqrt a b r g h in normal-of a (o .first) (o .black) (o .sign)
+
+  pub invsqrt-bounded : Guards opInvsqrt a b r → Answered r → InvsqrtBound a (wordOf r)
+  invsqrt-bounded g h = rw (answered-word g h) (invsqrt-bound a (invsqrt-normal g h))
+
+  pub invsqrt-tightly : Guards opInvsqrt a b r → Answered r → InvsqrtTight a (wordOf r)
+  invsqrt-tightly g h = rw (answered-word g h) (invsqrt-tight a (invsqrt-normal g h))
+
+  pub inv-bounded : Guards opInv a b r → Answered r → InvBound binary32 a (wordOf r)
+  inv-bounded g h = rw (answered-word g h) (inv-bound binary32 a (invertible a b (open-to opInv a b r g h)))

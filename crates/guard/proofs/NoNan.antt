@@ -1,0 +1,181 @@
+-- No answered value is a NaN, over all operations: what an operation that is not refused knows of its operands is what its kernel's law
+-- asks for. Assumes nothing.
+use Prim.Native.Nat.{ℕ, zero, suc, _+_, _^_, _≤_, _<_}
+use native.Mathlib.Nat.{le-refl, le-of-lt, zero-add, add-zero, add-suc, suc-add}
+use native.Mathlib.Omega.{arith}
+use mathlib.Core.Path.{_≡_, refl, sym, ap, subst, _∙_}
+use mathlib.Core.Logic.{_⊎_, inl, inr}
+use mathlib.Core.Bool.{Bool, true, false, cond, true≢false}
+use mathlib.Core.List.{List, [], _∷_}
+use borrow.Author.Tests.{leb-true, leb-false}
+use lib.Dec.{T, ltb, ltb→lt, leb}
+use lib.ListN.{getD}
+use mir.Syntax.{w32}
+use mir.Val.{ofZ, toZ}
+use mir.Facts.{ofZ-toZ}
+use lib.Ieee.{binary32, top, nanBits}
+use lib.Ieee.Bits.{toBits-lt}
+use lib.Ieee.Fits.{mul-fits}
+use Rattle.format.specs.Fields.{magnitude}
+use Rattle.format.specs.Meaning.{Under32, To31, Under23}
+use Rattle.format.specs.Estimates.{Normal, Invertible}
+use Rattle.format.proofs.Fields.{magnitude-lt}
+use Rattle.float.specs.Engine.{ieee}
+use Rattle.float.specs.Atan.{atanNormWord}
+use Rattle.float.specs.Powf.{productWord}
+use Rattle.raw.specs.Raw.{Kernel, none, kernels, kernelOf, rawOf}
+use Rattle.sizes.proofs.Bitwise.{trunc-number, fract-number, floor-number, ceil-number, round-number, abs-number, copysign-number, signum-number, sqrt-number, invsqrt-number, inv-number}
+use Rattle.sizes.proofs.Recip.{recip-number}
+use Rattle.sizes.proofs.Exp.{exp-number}
+use Rattle.sizes.proofs.Ln.{ln-number}
+use Rattle.sizes.proofs.Powf.{powf-number}
+use Rattle.sizes.proofs.Atan.{atan-number, atan-norm-number}
+use Rattle.sizes.proofs.Atan2.{atan2-number}
+use Rattle.sizes.proofs.Cos.{cos-number, sin-number}
+use Rattle.sizes.proofs.Hypot.{hypot-number}
+use Rattle.sizes.proofs.Powi.{powi-number}
+use Rattle.guard.specs.declared.gate.Gate.{Gate}
+use Rattle.guard.specs.Operations.{opTrunc, opFloor, opRound, opInv, opRecip, opExp, opAtan, opAtan2, opCos, opSin}
+use Rattle.guard.specs.Gates.{gateOf, judged, place, passes, larger}
+use Rattle.guard.specs.Refusals.{isPastPower, refusalOf}
+use Rattle.guard.proofs.Open.{Open, opened, finite-of, not-black, positive, normal-of, Between, both, between}
+
+-- ---- the magnitude that an open gate has let pass
+
+-- an end is a magnitude
+small : (n : ℕ) → T (ltb n (top binary32)) → n < top binary32
+small n t = ltb→lt n (top binary32) t
+
+by-magnitude : (g : Gate) (a : ℕ) → T (ltb (g .low) (top binary32)) → T (ltb (g .high) (top binary32)) → passes g (magnitude binary32 a) ≡ true → Between g (magnitude binary32 a)
+by-magnitude g a l h e = between g (magnitude binary32 a) (small (g .low) l) (small (g .high) h) (magnitude-lt binary32 a) e
+
+-- ---- the operands as the kernels' laws have them
+
+module _ (a : ℕ) where
+  pub under32 : passes (gateOf opTrunc) (magnitude binary32 a) ≡ true → Under32 a
+  under32 e = let r = by-magnitude (gateOf opTrunc) a tt tt e in omega arith
+
+  pub to31 : passes (gateOf opFloor) (magnitude binary32 a) ≡ true → To31 a
+  to31 e = by-magnitude (gateOf opFloor) a tt tt e .high
+
+  pub under23 : passes (gateOf opRound) (magnitude binary32 a) ≡ true → Under23 a
+  under23 e = let r = by-magnitude (gateOf opRound) a tt tt e in record { under = omega arith; clear = r .clear }
+
+  under64 : passes (gateOf opAtan) (magnitude binary32 a) ≡ true → magnitude binary32 a < 0x5f80_0000
+  under64 e = let r = by-magnitude (gateOf opAtan) a tt tt e in omega arith
+
+pub invertible : (a b : ℕ) → Open opInv a b → Invertible binary32 a
+unfolding judged
+invertible a b o = record {
+  above = normal-of a (o .first) (o .black) (o .sign) .above;
+  below = subst (λ (x : ℕ). x ≤ 0x7e80_0000) (positive a (o .sign)) (by-magnitude (gateOf opInv) a tt tt (o .gate) .high);
+}
+
+-- exp's gate has a sign at its low end
+within-exp : (w : ℕ) → w < 2 ^ 32 → passes (gateOf opExp) w ≡ true → (w ≤ 0x42b0_0000) ⊎ ((0x8000_0000 ≤ w) × (w ≤ 0xc2ae_0000))
+within-exp w h e = go (leb (top binary32) w) refl (both _ _ (both _ _ e .0))
+  where
+    go : (t : Bool) → leb (top binary32) w ≡ t → (leb (place 0xc2ae_0000) (place w) ≡ true) × (leb (place w) (place 0x42b0_0000) ≡ true)
+        → (w ≤ 0x42b0_0000) ⊎ ((0x8000_0000 ≤ w) × (w ≤ 0xc2ae_0000))
+    go true t q = let x = rw t at (leb-true (place 0xc2ae_0000) (place w) (q .0)) in inr (leb-true (top binary32) w t, omega arith)
+    go false t q = let x = rw t at (leb-true (place w) (place 0x42b0_0000) (q .1)) in inl (omega arith)
+
+-- the larger of two is at least each of them, and it is one of them
+record Larger (m n x : ℕ) : Type 0 where
+  first : m ≤ x
+  second : n ≤ x
+  either : (x ≡ m) ⊎ (x ≡ n)
+
+larger-is : (a b : ℕ) → Larger (magnitude binary32 a) (magnitude binary32 b) (larger a b)
+larger-is a b = go (magnitude binary32 a) (magnitude binary32 b)
+  where
+    go : (m n : ℕ) → Larger m n (cond (leb m n) n m)
+    go m n = by (leb m n) refl
+      where
+        by : (t : Bool) → leb m n ≡ t → Larger m n (cond t n m)
+        by true e = record { first = leb-true m n e; second = le-refl n; either = inr refl }
+        by false e = record { first = le-refl m; second = le-of-lt (leb-false m n e); either = inl refl }
+
+larger-lt : (a b : ℕ) → larger a b < top binary32
+larger-lt a b = go (larger-is a b .either)
+  where
+    go : (larger a b ≡ magnitude binary32 a) ⊎ (larger a b ≡ magnitude binary32 b) → larger a b < top binary32
+    go (inl e) = rw e (magnitude-lt binary32 a)
+    go (inr e) = rw e (magnitude-lt binary32 b)
+
+-- the magnitudes of an operation that judges the larger
+record Pair (m n : ℕ) : Type 0 where
+  first : m ≤ 0x5e80_0000
+  second : n ≤ 0x5e80_0000
+  either : (0x2180_0000 ≤ m) ⊎ (0x2180_0000 ≤ n)
+
+-- its gate ends at 2 ^ 60, and the laws reach to 2 ^ 62
+pair : (a b : ℕ) → passes (gateOf opAtan2) (larger a b) ≡ true → Pair (magnitude binary32 a) (magnitude binary32 b)
+pair a b e =
+    let l = larger-is a b in
+    let r = between (gateOf opAtan2) (larger a b) (small 0x2180_0000 tt) (small 0x5d80_0000 tt) (larger-lt a b) e in
+    record { first = omega arith; second = omega arith; either = go (l .either) (r .low) }
+  where
+    go : {x : ℕ} → (x ≡ magnitude binary32 a) ⊎ (x ≡ magnitude binary32 b) → 0x2180_0000 ≤ x → (0x2180_0000 ≤ magnitude binary32 a) ⊎ (0x2180_0000 ≤ magnitude binary32 b)
+    go (inl e) h = inl (omega arith)
+    go (inr e) h = inr (omega arith)
+
+product-lt : (a b : ℕ) → productWord a b < 2 ^ 32
+product-lt a b = toBits-lt binary32 _ (mul-fits binary32 _ _)
+
+-- the power whose magnitude is no power is refused
+no-least : (b : ℕ) → b < 2 ^ 32 → isPastPower b ≡ false → ofZ w32 (toZ w32 b) ≡ 2 ^ 31 → ⊥
+no-least b h n e = true≢false (sym (ap isPastPower (sym (ofZ-toZ {w = w32} (record { fits = h })) ∙ e)) ∙ n)
+
+-- ---- the law, kernel by kernel
+
+abbrev IsNumber : ℕ → Kernel → Type 0
+IsNumber op k = (a b : ℕ) → a < 2 ^ 32 → b < 2 ^ 32 → Open op a b → nanBits binary32 (rawOf k a b) ≡ false
+
+abbrev Each : ℕ → List Kernel → Type 0
+Each op [] = Unit {0}
+Each op (k ∷ ks) = IsNumber op k × Each (suc op) ks
+
+no-kernel : (op : ℕ) → IsNumber op none
+unfolding nanBits
+no-kernel op a b h k o = refl
+
+at : (op : ℕ) (ks : List Kernel) (i : ℕ) → Each op ks → IsNumber (op + i) (getD ks i none)
+at op [] i r = no-kernel (op + i)
+at op (k ∷ ks) zero r = subst (λ (n : ℕ). IsNumber n k) (sym (add-zero op)) (r .0)
+at op (k ∷ ks) (suc i) r = subst (λ (n : ℕ). IsNumber n (getD ks i none)) (suc-add op i ∙ sym (add-suc op i)) (at (suc op) ks i (r .1))
+
+each : Each 0 kernels
+unfolding judged
+each =
+    (no-kernel 0,
+    ((λ a b h k o. trunc-number a h (under32 a (o .gate))),
+    ((λ a b h k o. fract-number a (under32 a (o .gate))),
+    ((λ a b h k o. floor-number a (to31 a (o .gate))),
+    ((λ a b h k o. ceil-number a (to31 a (o .gate))),
+    ((λ a b h k o. round-number a (under23 a (o .gate))),
+    ((λ a b h k o. abs-number a (finite-of a (o .first))),
+    ((λ a b h k o. copysign-number a b (finite-of a (o .first))),
+    ((λ a b h k o. signum-number a (finite-of a (o .first))),
+    ((λ a b h k o. sqrt-number a (normal-of a (o .first) (o .black) (o .sign))),
+    ((λ a b h k o. invsqrt-number a (normal-of a (o .first) (o .black) (o .sign))),
+    ((λ a b h k o. inv-number a (invertible a b o)),
+    ((λ a b h k o. recip-number a h (not-black a (o .black)) (by-magnitude (gateOf opRecip) a tt tt (o .gate) .high)),
+    ((λ a b h k o. exp-number a (within-exp a h (o .gate))),
+    ((λ a b h k o. ln-number a (normal-of a (o .first) (o .black) (o .sign))),
+    ((λ a b h k o. powi-number a (toZ w32 b) h (not-black a (o .black)) (finite-of a (o .first)) (no-least b k (o .power))),
+    ((λ a b h k o. powf-number a b (normal-of a (o .first) (o .black) (o .sign)) (within-exp (productWord a b) (product-lt a b) (o .gate))),
+    ((λ a b h k o. atan-number a h (under64 a (o .gate))),
+    ((λ a b h k o. let p = pair a b (o .gate) in atan2-number a b h k (p .first) (p .second) (p .either)),
+    ((λ a b h k o. cos-number a h (by-magnitude (gateOf opCos) a tt tt (o .gate) .high)),
+    ((λ a b h k o. sin-number a h (by-magnitude (gateOf opSin) a tt tt (o .gate) .high)),
+    ((λ a b h k o. let p = pair a b (o .gate) in hypot-number a b h k (p .first) (p .second)),
+    tt))))))))))))))))))))))
+
+pub no-nan : (op a b : ℕ) → a < 2 ^ 32 → b < 2 ^ 32 → refusalOf op a b ≡ 0 → nanBits binary32 (rawOf (kernelOf op) a b) ≡ false
+no-nan op a b h k e = subst (λ (n : ℕ). IsNumber n (kernelOf op)) (zero-add op) (at 0 kernels op each) a b h k (opened op a b e)
+
+-- atan_norm shares atan's gate
+pub atan-norm-no-nan : (a : ℕ) → a < 2 ^ 32 → refusalOf opAtan a 0 ≡ 0 → nanBits binary32 (atanNormWord ieee a) ≡ false
+unfolding judged
+atan-norm-no-nan a h e = atan-norm-number a h (under64 a (opened opAtan a 0 e .gate))

@@ -1,0 +1,84 @@
+-- What is known of the operands of an operation that is not refused: they are finite, in the class that it asks for, and within its
+-- gate. Assumes nothing.
+use Prim.Native.Nat.{ℕ, _≤_, _<_}
+use native.Mathlib.Nat.{mod-eq-of-lt, div-eq-of-lt, div-lt-iff-lt-mul, le-of-suc-le-suc, eq-or-lt-of-le}
+use native.Mathlib.Omega.{arith}
+use mathlib.Core.Path.{_≡_, refl, subst}
+use mathlib.Core.Logic.{_⊎_, inl, inr}
+use mathlib.Core.Bool.{Bool, true, false, _&&_, false≢true}
+use mathlib.Core.List.{[], _∷_}
+use borrow.Author.Tests.{leb-true, leb-false, lt-leb, eqb-false, not-true, not-false}
+use lib.Dec.{leb}
+use lib.Ieee.{binary32, hid, ones, top}
+use Rattle.format.specs.Fields.{negative, magnitude, exponent, infWord}
+use Rattle.format.specs.Value.{Finite}
+use Rattle.format.specs.Estimates.{Normal}
+use Rattle.format.proofs.Fields.{hid-pos, exponent-lt}
+use Rattle.guard.specs.declared.gate.Gate.{Gate}
+use Rattle.guard.specs.Operations.{among, opPowi}
+use Rattle.guard.specs.Gates.{gateOf, judged, place, passes}
+use Rattle.guard.specs.Refusals.{isEndless, isBlack, isPastPower, twoFloats, refusesBlack, refusesSign, refusalOf}
+use Rattle.guard.proofs.First.{none-holds}
+
+-- ---- none of the refusals holds
+
+pub record Open (op a b : ℕ) : Type 0 where
+  pub first : isEndless a ≡ false
+  pub second : (twoFloats op && isEndless b) ≡ false
+  pub black : (refusesBlack op && isBlack a) ≡ false
+  pub sign : (refusesSign op && negative binary32 a) ≡ false
+  pub gate : passes (gateOf op) (judged op a b) ≡ true
+  pub power : (among (opPowi ∷ []) op && isPastPower b) ≡ false
+
+pub opened : (op a b : ℕ) → refusalOf op a b ≡ 0 → Open op a b
+opened op a b e =
+    let n = none-holds op a b e in
+    record { first = n .0; second = n .1 .0; black = n .1 .1 .0; sign = n .1 .1 .1 .0; gate = not-false _ (n .1 .1 .1 .1 .0); power = n .1 .1 .1 .1 .1 .0 }
+
+-- ---- the classes, as the laws of the kernels have them
+
+pub finite-of : (w : ℕ) → isEndless w ≡ false → Finite binary32 w
+finite-of w n = go (eq-or-lt-of-le (le-of-suc-le-suc (exponent-lt binary32 w)))
+  where
+    go : (exponent binary32 w ≡ ones binary32) ⊎ (exponent binary32 w < ones binary32) → Finite binary32 w
+    go (inl e) = absurd (eqb-false _ _ n e)
+    go (inr l) = l
+
+under-infinity : (w : ℕ) → Finite binary32 w → magnitude binary32 w < infWord binary32
+under-infinity w h = div-lt-iff-lt-mul (hid-pos binary32) .0 h
+
+pub not-black : (w : ℕ) → isBlack w ≡ false → hid binary32 ≤ magnitude binary32 w
+not-black w n = go (leb (hid binary32) (magnitude binary32 w)) refl
+  where
+    go : (t : Bool) → leb (hid binary32) (magnitude binary32 w) ≡ t → hid binary32 ≤ magnitude binary32 w
+    go true e = leb-true _ _ e
+    go false e = let z : exponent binary32 w ≡ 0 = div-eq-of-lt (leb-false _ _ e) in absurd (eqb-false _ _ n z)
+
+pub positive : (w : ℕ) → negative binary32 w ≡ false → magnitude binary32 w ≡ w
+positive w n = mod-eq-of-lt (leb-false _ _ n)
+
+pub normal-of : (w : ℕ) → isEndless w ≡ false → isBlack w ≡ false → negative binary32 w ≡ false → Normal binary32 w
+normal-of w e b n =
+    let m = positive w n in
+    record { above = subst (λ (x : ℕ). hid binary32 ≤ x) m (not-black w b); below = subst (λ (x : ℕ). x < infWord binary32) m (under-infinity w (finite-of w e)) }
+
+-- ---- the gate of a word whose sign is clear
+
+pub record Between (g : Gate) (w : ℕ) : Type 0 where
+  pub low : g .low ≤ w
+  pub high : w ≤ g .high
+  pub clear : w ≡ g .hole → ⊥
+
+pub both : (p q : Bool) → (p && q) ≡ true → (p ≡ true) × (q ≡ true)
+both true q e = (refl, e)
+both false q e = absurd (false≢true e)
+
+pub between : (g : Gate) (w : ℕ) → g .low < top binary32 → g .high < top binary32 → w < top binary32 → passes g w ≡ true → Between g w
+between g w l h k e =
+    let p = both _ _ e in
+    let q = both _ _ (p .0) in
+    record {
+      low = let x = rw (lt-leb (top binary32) (g .low) l, lt-leb (top binary32) w k) at (leb-true (place (g .low)) (place w) (q .0)) in omega arith;
+      high = let x = rw (lt-leb (top binary32) w k, lt-leb (top binary32) (g .high) h) at (leb-true (place w) (place (g .high)) (q .1)) in omega arith;
+      clear = eqb-false _ _ (not-true _ (p .1));
+    }

@@ -1,0 +1,13 @@
+-- `guard::answered` meets its contract. Assumes nothing.
+use borrow.Author.Needs.{needs}
+use Rattle.guard.proofs.Gives.{refused, numbered}
+use Rattle.guard.proofs.answered.Statement.{statement}
+use Rattle.guard.proofs.answered.Tie as tie
+
+pub answered-spec : {M : Type 1} → statement M
+answered-spec =
+    tie.close
+    (tie.spec
+    (λ c h. refused _ _ (c .if1 .taken))
+    (λ c κs. search needs)
+    (λ c h. rw (c .value .ensures) (numbered _ _ (search needs) (c .before .if1 .left) (h (c .before .if1 .left)))))

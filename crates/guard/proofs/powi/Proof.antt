@@ -1,0 +1,30 @@
+-- `guard::powi` meets its contract: the power is judged as the word that it is in two's complement. Assumes nothing.
+use borrow.Author.Needs.{needs}
+use Prim.Native.Nat.{ℕ}
+use mathlib.Core.Path.{_≡_, sym, ap, _∙_}
+use mir.Syntax.{w32}
+use mir.Val.{ofZ, toZ}
+use mir.Facts.{toZ-ofZ}
+use Rattle.float.specs.Powi.{powiWord}
+use Rattle.guard.specs.Operations.{opPowi}
+use Rattle.guard.specs.Refusals.{refusalOf}
+use Rattle.guard.proofs.Guards.{guards}
+use Rattle.guard.proofs.powi.Statement.{statement}
+use Rattle.guard.proofs.powi.Tie as tie
+
+word-is : (c : tie.After-bits-of-i32) → c .bits-of-i32 .result ≡ ofZ w32 (c .before .args .n)
+word-is c = c .bits-of-i32 .ensures ∙ ap (ofZ w32) (toZ-ofZ (c .before .fits .n))
+
+pub powi-spec : {M : Type 1} → statement M
+powi-spec =
+    tie.close
+    (tie.spec
+    (λ c κs. search needs)
+    (λ c κs. search needs)
+    (λ c κs. search needs)
+    (λ c κs. search needs)
+    (λ c.
+    let bits = c .before .before .before in
+    let args = bits .before .args in
+    guards opPowi (args .x .0) (ofZ w32 (args .n)) _ _ _ (search needs) (search needs) (c .answered .ensures) (c .before .before .first .ensures ∙ ap (refusalOf opPowi (args .x .0)) (word-is bits))
+    (c .before .powi .ensures)))

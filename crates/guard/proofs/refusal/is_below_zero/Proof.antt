@@ -1,0 +1,14 @@
+-- `guard::refusal::is_below_zero` meets its contract. Assumes nothing.
+use borrow.Author.Needs.{needs}
+use mathlib.Core.Path.{sym, _∙_}
+use Rattle.guard.proofs.refusal.is_below_zero.Statement.{statement}
+use Rattle.guard.proofs.refusal.is_below_zero.Tie as tie
+
+pub is-below-zero-spec : {M : Type 1} → statement M
+is-below-zero-spec =
+    tie.close
+    (tie.spec
+    (λ c κs. search needs)
+    (λ c κs. search needs)
+    (λ c. rw (sym (c .before .before .refuses-sign .ensures) ∙ c .before .if1 .taken) (c .is-sign-negative .ensures))
+    (λ c. rw (sym (c .before .refuses-sign .ensures) ∙ c .if1 .left)))

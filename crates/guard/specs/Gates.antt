@@ -1,0 +1,70 @@
+-- The gates, one for each operation: the lowest and the highest word that pass, both allowed, and a word between them that does not.
+-- Words are ordered as the numbers that they are, -0 just below +0. Definitions only.
+use Prim.Native.Nat.{ℕ, _+_, _-_, _*_}
+use mathlib.Core.Bool.{Bool, cond, not, _&&_}
+use mathlib.Core.List.{List, [], _∷_}
+use lib.ListN.{getD}
+use lib.Dec.{leb, eqb}
+use lib.Ieee.{binary32, top}
+use Rattle.format.specs.Fields.{negative, magnitude}
+use Rattle.float.specs.Powf.{productWord}
+use Rattle.guard.specs.declared.gate.Gate.{Gate}
+use Rattle.guard.specs.Operations.{among, opExp, opPowf, opAtan2, opHypot}
+
+-- no word is held back: ffffffff is a NaN, which no gate's ends take in
+abbrev pub between : ℕ → ℕ → Gate
+between l h = record { low = l; high = h; hole = 0xffff_ffff }
+
+-- every magnitude passes
+abbrev pub unbounded : Gate
+unbounded = between 0x0000_0000 0x7fff_ffff
+
+-- in the order of the numbers, from 00, which is no operation; an end that is "under" a bound is the word below it
+abbrev pub gates : List Gate
+gates =
+    unbounded
+    ∷ between 0x0000_0000 0x4f7f_ffff
+    ∷ between 0x0000_0000 0x4f7f_ffff
+    ∷ between 0x0000_0000 0x4f00_0000
+    ∷ between 0x0000_0000 0x4f00_0000
+    ∷ record { low = 0x0000_0000; high = 0x4aff_ffff; hole = 0x3eff_ffff }
+    ∷ unbounded
+    ∷ unbounded
+    ∷ unbounded
+    ∷ unbounded
+    ∷ unbounded
+    ∷ between 0x0000_0000 0x7e80_0000
+    ∷ between 0x0000_0000 0x7e00_0000
+    ∷ between 0xc2ae_0000 0x42b0_0000
+    ∷ unbounded
+    ∷ unbounded
+    ∷ between 0xc2ae_0000 0x42b0_0000
+    ∷ between 0x0000_0000 0x5f7f_ffff
+    ∷ between 0x2180_0000 0x5d80_0000
+    ∷ between 0x0000_0000 0x4480_0000
+    ∷ between 0x0000_0000 0x4480_0000
+    ∷ between 0x2180_0000 0x5d80_0000
+    ∷ []
+
+abbrev pub gateOf : ℕ → Gate
+gateOf op = getD gates op unbounded
+
+-- where a word stands in the order, counted from the NaN that is furthest below 0
+abbrev pub place : ℕ → ℕ
+place w = cond (negative binary32 w) (2 * top binary32 - 1 - w) (top binary32 + w)
+
+abbrev pub passes : Gate → ℕ → Bool
+passes g w = (leb (place (g .low)) (place w) && leb (place w) (place (g .high))) && not (eqb w (g .hole))
+
+-- the larger of two magnitudes
+abbrev pub larger : ℕ → ℕ → ℕ
+larger a b = let x = magnitude binary32 a in let y = magnitude binary32 b in cond (leb x y) y x
+
+-- the word that an operation's gate judges: exp's operand as it is; powf's once rounded n * ln(x); of atan2 and hypot the larger
+-- magnitude; elsewhere the first operand's magnitude
+unfoldable pub judged : ℕ → ℕ → ℕ → ℕ
+judged op a b =
+    cond (eqb op opExp) a
+    (cond (eqb op opPowf) (productWord a b)
+    (cond (among (opAtan2 ∷ opHypot ∷ []) op) (larger a b)
+    (magnitude binary32 a)))

@@ -1,0 +1,79 @@
+-- What a guarded call answers, and how this paper writes an answer: a refusal's number, 0 where there is none, and words. Definitions only.
+use Prim.Native.Nat.{ℕ, zero, suc}
+use mathlib.Core.Path.{_≡_}
+use mathlib.Core.Bool.{cond}
+use lib.Dec.{eqb}
+use lib.Ieee.{binary32, ofBits, toBits}
+use Rattle.format.specs.Parts.{truncWord, fractWord}
+use Rattle.raw.specs.Raw.{kernelOf, operandsOf, rawOf}
+use Rattle.guard.specs.declared.Guarded.{Guarded}
+use Rattle.guard.specs.declared.Guarded.the-variants.{Number, Parts, Refused}
+use Rattle.guard.specs.declared.Answer.{Answer}
+use Rattle.guard.specs.Operations.{opTrunc}
+use Rattle.guard.specs.Refusals.{refusalOf}
+
+-- ---- an answer in this paper's terms
+
+abbrev pub numberIn : Guarded → ℕ
+numberIn (Number x) = 0
+numberIn (Parts x y) = 0
+numberIn (Refused n) = n
+
+-- a refusal's value is the zero word; only two parts have a second word
+abbrev pub wordIn : Guarded → ℕ
+wordIn (Number x) = toBits binary32 x
+wordIn (Parts x y) = toBits binary32 x
+wordIn (Refused n) = 0
+
+abbrev pub secondIn : Guarded → ℕ
+secondIn (Number x) = 0
+secondIn (Parts x y) = toBits binary32 y
+secondIn (Refused n) = 0
+
+abbrev pub numberOf : Answer → ℕ
+numberOf r = numberIn (r .result)
+
+abbrev pub wordOf : Answer → ℕ
+wordOf r = wordIn (r .result)
+
+abbrev pub secondOf : Answer → ℕ
+secondOf r = secondIn (r .result)
+
+-- the call was not refused
+abbrev pub Answered : Answer → Type 0
+Answered r = numberOf r ≡ 0
+
+-- ---- what each call answers
+
+-- refused with n, or where n is 0 answered with g
+abbrev pub given : ℕ → Guarded → Answer
+given zero g = record { result = g }
+given (suc n) g = record { result = Refused (suc n) }
+
+-- the answer r is the refusal n, or where n is 0 the number whose word is w; and what it is in this paper's terms
+pub record Gives (n w : ℕ) (r : Answer) : Type 0 where
+  pub answer : r ≡ given n (Number (ofBits binary32 w))
+  pub number : numberOf r ≡ n
+  pub word : wordOf r ≡ cond (eqb n 0) w 0
+
+-- the word that an operation answers with, where it is not refused: the raw kernel's
+abbrev pub valueOf : ℕ → ℕ → ℕ → ℕ
+valueOf op a b = rawOf (kernelOf op) a b
+
+-- a guarded operation on two words
+abbrev pub Guards : ℕ → ℕ → ℕ → Answer → Type 0
+Guards op a b = Gives (refusalOf op a b) (valueOf op a b)
+
+-- the same by number: 6 where the number has no kernel
+abbrev pub numberedRefusal : ℕ → ℕ → ℕ → ℕ
+numberedRefusal op a b = cond (eqb (operandsOf (kernelOf op)) 0) 6 (refusalOf op a b)
+
+abbrev pub GuardsNumbered : ℕ → ℕ → ℕ → Answer → Type 0
+GuardsNumbered op a b = Gives (numberedRefusal op a b) (valueOf op a b)
+
+-- trunc and fract together, behind the gate that they share
+pub record GivesParts (w : ℕ) (r : Answer) : Type 0 where
+  pub answer : r ≡ given (refusalOf opTrunc w 0) (Parts (ofBits binary32 (truncWord binary32 w)) (ofBits binary32 (fractWord binary32 w)))
+  pub number : numberOf r ≡ refusalOf opTrunc w 0
+  pub word : wordOf r ≡ cond (eqb (refusalOf opTrunc w 0) 0) (truncWord binary32 w) 0
+  pub second : secondOf r ≡ cond (eqb (refusalOf opTrunc w 0) 0) (fractWord binary32 w) 0

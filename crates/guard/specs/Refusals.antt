@@ -1,0 +1,67 @@
+-- The refusals 1 to 5 in document 01's order: each has its number, the operations that can give it, and when it holds. The first that
+-- holds is given. Definitions only.
+use Prim.Native.Nat.{ℕ, _^_}
+use mathlib.Core.Bool.{Bool, true, cond, not, _&&_}
+use mathlib.Core.List.{List, [], _∷_}
+use lib.Dec.{ltb, eqb}
+use lib.IntN.{natAbs}
+use lib.Ieee.{binary32, ones}
+use mir.Syntax.{w32}
+use mir.Val.{toZ}
+use Rattle.format.specs.Fields.{negative, exponent}
+use Rattle.guard.specs.Operations.{among, opCopysign, opSqrt, opInvsqrt, opInv, opRecip, opLn, opPowi, opPowf, opAtan2, opHypot}
+use Rattle.guard.specs.Gates.{gateOf, passes, judged}
+
+-- an infinity or a NaN
+abbrev pub isEndless : ℕ → Bool
+isEndless w = eqb (exponent binary32 w) (ones binary32)
+
+-- taken for zero, whatever its fraction is
+abbrev pub isBlack : ℕ → Bool
+isBlack w = eqb (exponent binary32 w) 0
+
+-- powi's second word as a power: below -2 ^ 20 or above 2 ^ 20
+abbrev pub isPastPower : ℕ → Bool
+isPastPower n = ltb (2 ^ 20) (natAbs (toZ w32 n))
+
+-- the operations that a rule is about
+abbrev pub every : ℕ → Bool
+every op = true
+
+-- the second operand is a float
+abbrev pub twoFloats : ℕ → Bool
+twoFloats = among (opCopysign ∷ opPowf ∷ opAtan2 ∷ opHypot ∷ [])
+
+abbrev pub refusesBlack : ℕ → Bool
+refusesBlack = among (opSqrt ∷ opInvsqrt ∷ opInv ∷ opRecip ∷ opLn ∷ opPowi ∷ opPowf ∷ [])
+
+abbrev pub refusesSign : ℕ → Bool
+refusesSign = among (opSqrt ∷ opInvsqrt ∷ opInv ∷ opLn ∷ opPowf ∷ [])
+
+-- a number of the table, the operations that give it, and when it holds of an operation and its two words
+pub record Refusal : Type 0 where
+  pub number : ℕ
+  pub by : ℕ → Bool
+  pub when : ℕ → ℕ → ℕ → Bool
+
+-- in the order of the table; 1 stands twice, for the first operand and for a second that is a float
+abbrev pub refusals : List Refusal
+refusals =
+    record { number = 1; by = every; when = λ op a b. isEndless a }
+    ∷ record { number = 1; by = twoFloats; when = λ op a b. isEndless b }
+    ∷ record { number = 2; by = refusesBlack; when = λ op a b. isBlack a }
+    ∷ record { number = 3; by = refusesSign; when = λ op a b. negative binary32 a }
+    ∷ record { number = 4; by = every; when = λ op a b. not (passes (gateOf op) (judged op a b)) }
+    ∷ record { number = 5; by = among (opPowi ∷ []); when = λ op a b. isPastPower b }
+    ∷ []
+
+abbrev pub holds : Refusal → ℕ → ℕ → ℕ → Bool
+holds r op a b = r .by op && r .when op a b
+
+-- the number of the first that holds, and 0 where none does
+abbrev pub firstOf : List Refusal → ℕ → ℕ → ℕ → ℕ
+firstOf [] op a b = 0
+firstOf (r ∷ rs) op a b = cond (holds r op a b) (r .number) (firstOf rs op a b)
+
+unfoldable pub refusalOf : ℕ → ℕ → ℕ → ℕ
+refusalOf op a b = firstOf refusals op a b

@@ -1,0 +1,100 @@
+// The gates: which words an operation takes. Every bound stands in this table and nowhere else.
+ghost use mathlib.Core.Path.{_≡_};
+ghost use Rattle.guard.specs.Gates.{gateOf, place, passes, larger, judged};
+use crate::number;
+use float::F32;
+
+// The lowest and the highest word that pass, both allowed, and a word between them that does not.
+// Words are ordered as the numbers that they are, -0 just below +0.
+pub struct Gate {
+    pub low: u32,
+    pub high: u32,
+    pub hole: u32,
+}
+
+// A NaN, which no gate's ends take in: no word is held back.
+const NONE: u32 = 0xffff_ffff;
+
+// Every magnitude passes.
+const OPEN: Gate = Gate {
+    low: 0x0000_0000,
+    high: 0x7fff_ffff,
+    hole: NONE,
+};
+
+// By operation number, from 00, which is no operation. An end that is "under" a bound is the word
+// below it.
+const GATES: [Gate; 22] = [
+    OPEN,
+    Gate { low: 0x0000_0000, high: 0x4f7f_ffff, hole: NONE },
+    Gate { low: 0x0000_0000, high: 0x4f7f_ffff, hole: NONE },
+    Gate { low: 0x0000_0000, high: 0x4f00_0000, hole: NONE },
+    Gate { low: 0x0000_0000, high: 0x4f00_0000, hole: NONE },
+    Gate { low: 0x0000_0000, high: 0x4aff_ffff, hole: 0x3eff_ffff },
+    OPEN,
+    OPEN,
+    OPEN,
+    OPEN,
+    OPEN,
+    Gate { low: 0x0000_0000, high: 0x7e80_0000, hole: NONE },
+    Gate { low: 0x0000_0000, high: 0x7e00_0000, hole: NONE },
+    Gate { low: 0xc2ae_0000, high: 0x42b0_0000, hole: NONE },
+    OPEN,
+    OPEN,
+    Gate { low: 0xc2ae_0000, high: 0x42b0_0000, hole: NONE },
+    Gate { low: 0x0000_0000, high: 0x5f7f_ffff, hole: NONE },
+    Gate { low: 0x2180_0000, high: 0x5d80_0000, hole: NONE },
+    Gate { low: 0x0000_0000, high: 0x4480_0000, hole: NONE },
+    Gate { low: 0x0000_0000, high: 0x4480_0000, hole: NONE },
+    Gate { low: 0x2180_0000, high: 0x5d80_0000, hole: NONE },
+];
+
+// The row of an operation. The whole table is copied to read it: keep it out of loops.
+pub fn of(op: u32) -> Gate
+    ensures { λ r. ⌜ r ≡ gateOf op ⌝ }
+{
+    if op < 22 {
+        return GATES[op as usize];
+    }
+    OPEN
+}
+
+// Where a word stands in the order.
+fn place(w: u32) -> u32
+    ensures { λ r. ⌜ r ≡ place w ⌝ }
+{
+    if w < F32::SIGN_MASK {
+        return F32::SIGN_MASK + w;
+    }
+    0xffff_ffff - w
+}
+
+pub fn passes(gate: Gate, w: u32) -> bool
+    ensures { λ r. ⌜ r ≡ passes gate w ⌝ }
+{
+    let at = place(w);
+    (place(gate.low) <= at) & (at <= place(gate.high)) & (w != gate.hole)
+}
+
+fn larger(a: F32, b: F32) -> u32
+    ensures { λ r. ⌜ r ≡ larger (a .0) (b .0) ⌝ }
+{
+    let x = a.abs().0;
+    let y = b.abs().0;
+    if x <= y {
+        return y;
+    }
+    x
+}
+
+// The word that an operation's gate judges.
+pub fn judged(op: u32, a: F32, b: F32) -> u32
+    ensures { λ r. ⌜ r ≡ judged op (a .0) (b .0) ⌝ }
+{
+    match op {
+        number::EXP => a.0,
+        number::POWF => F32::of(b.value() * a.ln().value()).0,
+        number::ATAN2 | number::HYPOT => larger(a, b),
+        _ => a.abs().0,
+    }
+}

@@ -1,0 +1,113 @@
+// The refusals 1 to 5: when each holds, and which is the first in document 01's order.
+ghost use mathlib.Core.Path.{_≡_};
+ghost use mathlib.Core.Bool.{not, _&&_};
+ghost use mathlib.Core.List.{[], _∷_};
+ghost use lib.Ieee.{binary32};
+ghost use Rattle.format.specs.Fields.{negative};
+ghost use Rattle.guard.specs.Operations.{among, opPowi};
+ghost use Rattle.guard.specs.Gates.{gateOf, judged, passes};
+ghost use Rattle.guard.specs.Refusals.{isEndless, isBlack, isPastPower, twoFloats, refusesBlack, refusesSign, refusalOf};
+use crate::gate;
+use crate::number;
+use float::F32;
+use float::wrap;
+
+// The first refusal that holds, and 0 where none does.
+pub fn first(op: u32, a: F32, b: u32) -> u32
+    ensures { λ r. ⌜ r ≡ refusalOf op (a .0) b ⌝ }
+{
+    if is_endless(a) {
+        return 1;
+    }
+    if is_second_endless(op, b) {
+        return 1;
+    }
+    if is_black(op, a) {
+        return 2;
+    }
+    if is_below_zero(op, a) {
+        return 3;
+    }
+    if !gate::passes(gate::of(op), gate::judged(op, a, F32(b))) {
+        return 4;
+    }
+    if is_past_power(op, b) {
+        return 5;
+    }
+    0
+}
+
+// Whether a word is an infinity or a NaN.
+fn is_endless(x: F32) -> bool
+    ensures { λ r. ⌜ r ≡ isEndless (x .0) ⌝ }
+{
+    x.extract_exponent_bits() == 255
+}
+
+fn is_second_endless(op: u32, b: u32) -> bool
+    ensures { λ r. ⌜ r ≡ (twoFloats op && isEndless b) ⌝ }
+{
+    match op {
+        number::COPYSIGN | number::POWF | number::ATAN2 | number::HYPOT => is_endless(F32(b)),
+        _ => false,
+    }
+}
+
+// Black is an exponent field of 0, whatever the fraction is.
+fn is_black(op: u32, a: F32) -> bool
+    ensures { λ r. ⌜ r ≡ (refusesBlack op && isBlack (a .0)) ⌝ }
+{
+    if refuses_black(op) {
+        return a.extract_exponent_bits() == 0;
+    }
+    false
+}
+
+fn refuses_black(op: u32) -> bool
+    ensures { λ r. ⌜ r ≡ refusesBlack op ⌝ }
+{
+    match op {
+        number::SQRT => true,
+        number::INVSQRT => true,
+        number::INV => true,
+        number::RECIP => true,
+        number::LN => true,
+        number::POWI => true,
+        number::POWF => true,
+        _ => false,
+    }
+}
+
+fn is_below_zero(op: u32, a: F32) -> bool
+    ensures { λ r. ⌜ r ≡ (refusesSign op && negative binary32 (a .0)) ⌝ }
+{
+    if refuses_sign(op) {
+        return a.is_sign_negative();
+    }
+    false
+}
+
+fn refuses_sign(op: u32) -> bool
+    ensures { λ r. ⌜ r ≡ refusesSign op ⌝ }
+{
+    match op {
+        number::SQRT => true,
+        number::INVSQRT => true,
+        number::INV => true,
+        number::LN => true,
+        number::POWF => true,
+        _ => false,
+    }
+}
+
+// powi takes powers up to 2^20 either way: moved up by that many, a power is from 0 to 2^21.
+const POWERS: u32 = 0x0010_0000;
+
+fn is_past_power(op: u32, n: u32) -> bool
+    ensures { λ r. ⌜ r ≡ (among (opPowi ∷ []) op && isPastPower n) ⌝ }
+{
+    if op == number::POWI {
+        return wrap::sum(n, POWERS) > 2 * POWERS;
+    }
+    false
+}
