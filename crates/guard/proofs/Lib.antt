@@ -6,3 +6,4 @@ pub mod Open
 pub mod NoNan
 mod Guards
 pub mod Meaning
+mod Both

@@ -1,3 +1,3 @@
 -- What belongs to no one function.
-mod Numbers
+pub mod Numbers
 pub mod OneAnswer

@@ -7,7 +7,7 @@ use lib.ListN.{length, getD, List·getD-eq-default}
 use Rattle.raw.specs.Raw.{Kernel, none, kernels, kernelOf}
 
 -- what the last arm knows: n is none of the numbers before it
-abbrev NoneTo : ℕ → ℕ → Type 0
+abbrev pub NoneTo : ℕ → ℕ → Type 0
 NoneTo zero n = Unit
 NoneTo (suc k) n = NoneTo k n × (n ≡ suc k → ⊥)
 

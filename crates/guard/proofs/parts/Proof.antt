@@ -1,5 +1,7 @@
 -- `guard::parts` meets its contract. Assumes nothing.
 use borrow.Author.Needs.{needs}
+use mathlib.Core.Path.{sym, _∙_}
+use Rattle.guard.proofs.Both.{both-refused, both-answered}
 use Rattle.guard.proofs.parts.Statement.{statement}
 use Rattle.guard.proofs.parts.Tie as tie
 
@@ -8,9 +10,13 @@ parts-spec =
     tie.close
     (tie.spec
     (λ c κs. search needs)
-    (λ c. ?)
+    (λ c. both-refused _ _ (c .before .first .ensures) (c .if1 .taken))
     (λ c κs. search needs)
     (λ c κs. search needs)
     (λ c κs. search needs)
     (λ c κs. search needs)
-    (λ c. ?))
+    (λ c.
+    let tested = c .before .before .before .before in
+    rw (c .before .before .value .ensures, c .value2 .ensures)
+    (both-answered (tested .before .before .args .x .0) (search needs) (sym (tested .before .first .ensures) ∙ tested .if1 .left) _ _ (search needs) (search needs) (c .before .before .before .trunc .ensures .0)
+    (c .before .fract .ensures .0))))

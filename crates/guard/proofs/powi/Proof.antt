@@ -1,7 +1,7 @@
 -- `guard::powi` meets its contract: the power is judged as the word that it is in two's complement. Assumes nothing.
 use borrow.Author.Needs.{needs}
-use Prim.Native.Nat.{ℕ}
-use mathlib.Core.Path.{_≡_, sym, ap, _∙_}
+use Prim.Native.Nat.{ℕ, _^_, _<_}
+use mathlib.Core.Path.{_≡_, ap, subst, _∙_}
 use mir.Syntax.{w32}
 use mir.Val.{ofZ, toZ}
 use mir.Facts.{toZ-ofZ}
@@ -26,5 +26,5 @@ powi-spec =
     (λ c.
     let bits = c .before .before .before in
     let args = bits .before .args in
-    guards opPowi (args .x .0) (ofZ w32 (args .n)) _ _ _ (search needs) (search needs) (c .answered .ensures) (c .before .before .first .ensures ∙ ap (refusalOf opPowi (args .x .0)) (word-is bits))
+    guards opPowi (args .x .0) (ofZ w32 (args .n)) _ _ _ (search needs) (subst (λ (w : ℕ). w < 2 ^ 32) (word-is bits) (search needs)) (c .answered .ensures) (c .before .before .first .ensures ∙ ap (refusalOf opPowi (args .x .0)) (word-is bits))
     (c .before .powi .ensures)))

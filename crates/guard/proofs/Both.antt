@@ -1,0 +1,47 @@
+-- trunc and fract together: the refusal that they share, or two words that are no NaN and have their meanings. Assumes nothing.
+use Prim.Native.Nat.{ℕ, zero, suc, _^_, _<_}
+use mathlib.Core.Path.{_≡_, refl, sym, ap, subst, _∙_}
+use mathlib.Core.Bool.{false}
+use borrow.Author.Tests.{ne-eqb}
+use lib.Ieee.{binary32, ofBits, toBits}
+use Rattle.format.specs.Parts.{truncWord, fractWord}
+use Rattle.format.specs.Meaning.{Under32, IsTrunc, IsFract}
+use Rattle.format.proofs.PartsMeaning.{trunc-under32, fract-under32}
+use Rattle.sizes.proofs.Bitwise.{trunc-number, fract-number}
+use Rattle.guard.specs.declared.Guarded.the-variants.{Parts, Refused}
+use Rattle.guard.specs.declared.Answer.{Answer}
+use Rattle.guard.specs.Operations.{opTrunc}
+use Rattle.guard.specs.Gates.{judged}
+use Rattle.guard.specs.Refusals.{refusalOf}
+use Rattle.guard.specs.Guarded.{wordOf, secondOf, Answered, GivesParts}
+use Rattle.guard.proofs.Gives.{kept-word}
+use Rattle.guard.proofs.Open.{opened}
+use Rattle.guard.proofs.NoNan.{under32}
+
+-- the whole contract
+abbrev Both : ℕ → Answer → Type 0
+Both w r = GivesParts w r × ((Answered r → IsTrunc binary32 w (wordOf r)) × (Answered r → IsFract binary32 w (secondOf r)))
+
+pub both-refused : (w n : ℕ) → n ≡ refusalOf opTrunc w 0 → (n ≡ 0 → ⊥) → Both w (record { result = Refused n })
+both-refused w zero e h = absurd (h refl)
+both-refused w (suc n) e h = (
+  record { answer = rw (sym e); number = e; word = rw (sym e, ne-eqb (suc n) 0 h); second = rw (sym e, ne-eqb (suc n) 0 h) },
+  ((λ z. absurd (h z)), (λ z. absurd (h z))),
+)
+
+module _ (w : ℕ) (w-lt : w < 2 ^ 32) (none : refusalOf opTrunc w 0 ≡ 0) where
+  inside : Under32 w
+  unfolding judged
+  inside = under32 w (opened opTrunc w 0 none .gate)
+
+  whole : (t : ℕ) → t < 2 ^ 32 → t ≡ truncWord binary32 w → toBits binary32 (ofBits binary32 t) ≡ truncWord binary32 w
+  whole t h e = kept-word t h (rw e (trunc-number w w-lt inside)) ∙ e
+
+  rest : (t : ℕ) → t < 2 ^ 32 → t ≡ fractWord binary32 w → toBits binary32 (ofBits binary32 t) ≡ fractWord binary32 w
+  rest t h e = kept-word t h (rw e (fract-number w inside)) ∙ e
+
+  pub both-answered : (t s : ℕ) → t < 2 ^ 32 → s < 2 ^ 32 → t ≡ truncWord binary32 w → s ≡ fractWord binary32 w → Both w (record { result = Parts (ofBits binary32 t) (ofBits binary32 s) })
+  both-answered t s h k e d = (
+    record { answer = rw (none, e, d); number = sym none; word = rw none (whole t h e); second = rw none (rest s k d) },
+    ((λ z. rw (whole t h e) (trunc-under32 w w-lt inside)), (λ z. rw (rest s k d) (fract-under32 w inside))),
+  )
