@@ -1,19 +1,35 @@
--- An operation number and two words, answered as a frame is: a refusal in the high 32 bits, or a word in the low 32. Definitions only.
-use Prim.Native.Nat.{ℕ, _-_, _*_, _^_}
-use mathlib.Core.Bool.{cond}
+-- An operation number and two words, answered as a frame is: the refusal in the high 32 bits and the word in the low 32. Definitions only.
+use Prim.Native.Nat.{ℕ, _+_, _-_, _*_, _^_}
+use mathlib.Core.Bool.{cond, not, _&&_}
 use lib.Dec.{leb, eqb}
-use Rattle.raw.specs.Raw.{Kernel, none, one, two, kernelOf}
+use Rattle.raw.specs.Raw.{kernelOf, operandsOf, rawOf}
+use Rattle.guard.specs.Refusals.{refusalOf}
+use Rattle.guard.specs.Guarded.{valueOf}
 
--- a refusal's word is 0
-abbrev pub refused : ℕ → ℕ
-refused n = n * 2 ^ 32
+abbrev pub packed : ℕ → ℕ → ℕ
+packed n w = n * 2 ^ 32 + w
 
--- 6: no such operation; 7: a second word that is not used and is not 0
-abbrev pub judged : Kernel → ℕ → ℕ → ℕ
-judged none a b = refused 6
-judged (one f) a b = cond (eqb b 0) (f a) (refused 7)
-judged (two f) a b = f a b
+-- the refusal n, whose word is 0, or where n is 0 the word w
+abbrev pub answerWords : ℕ → ℕ → ℕ
+answerWords n w = packed n (cond (eqb n 0) w 0)
+
+-- by how many words an operation reads, 6: it is no operation; 7: the second word is not used and is not 0; else 0
+abbrev pub shapeOf : ℕ → ℕ → ℕ
+shapeOf count b = cond (eqb count 0) 6 (cond (eqb count 1 && not (eqb b 0)) 7 0)
+
+-- a frame of that shape, where x is what the operation answers
+abbrev pub framed : ℕ → ℕ → ℕ
+framed n x = cond (eqb n 0) x (packed n 0)
+
+abbrev pub shape : ℕ → ℕ → ℕ
+shape op b = shapeOf (operandsOf (kernelOf op)) b
+
+abbrev pub guardedWords : ℕ → ℕ → ℕ → ℕ
+guardedWords op a b = framed (shape op b) (answerWords (refusalOf op a b) (valueOf op a b))
+
+abbrev pub rawWords : ℕ → ℕ → ℕ → ℕ
+rawWords op a b = framed (shape op b) (rawOf (kernelOf op) a b)
 
 -- a raw operation's number is its kernel's and 80
 abbrev pub wordsOf : ℕ → ℕ → ℕ → ℕ
-wordsOf op a b = cond (leb 0x80 op) (judged (kernelOf (op - 0x80)) a b) (refused 6)
+wordsOf op a b = cond (leb 0x80 op) (rawWords (op - 0x80) a b) (guardedWords op a b)

@@ -2,30 +2,33 @@
 ghost use mathlib.Core.Path.{_≡_};
 ghost use Rattle.float.specs.Engine.{ieee};
 ghost use Rattle.float.specs.Atan.{atanNormWord};
-ghost use Rattle.dampmeadow.specs.Words.{wordsOf};
+ghost use Rattle.guard.specs.Operations.{opAtan};
+ghost use Rattle.guard.specs.Refusals.{refusalOf};
+ghost use Rattle.guard.specs.Guarded.{numberOf, wordOf};
+ghost use Rattle.dampmeadow.specs.Words.{packed, answerWords, shapeOf, wordsOf};
 use float::F32;
+use guard::Answer;
 
 // What a frame with this operation and these two words answers: the refusal number in the high 32
-// bits and the word in the low 32. An operation that is not there is refused with 6, and a second
-// word that the operation does not use and that is not zero with 7.
+// bits and the word in the low 32. An operation that is not there is refused with 6, a second word
+// that the operation does not use and that is not zero with 7, and a guarded operation with 1 to 5.
 #[no_mangle]
 pub extern "C" fn dampmeadow_words(op: u32, a: u32, b: u32) -> u64
     ensures { λ r. ⌜ r ≡ wordsOf op a b ⌝ }
 {
-    if op < 0x80 {
-        return NO_SUCH_OPERATION;
-    }
-    let number = op - 0x80;
-    let operands = raw::operands(number);
-    if operands == 0 {
-        return NO_SUCH_OPERATION;
-    }
-    if operands == 1 {
-        if b != 0 {
-            return MALFORMED;
+    if op >= RAW {
+        let number = op - RAW;
+        let refusal = shape(raw::operands(number), b);
+        if refusal != 0 {
+            return refused(refusal);
         }
+        return raw::answer(number, a, b) as u64;
     }
-    raw::answer(number, a, b) as u64
+    let refusal = shape(raw::operands(op), b);
+    if refusal != 0 {
+        return refused(refusal);
+    }
+    answer_words(guard::call(op, a, b))
 }
 
 // atan_norm, which has no operation number: the arctangent as a share of a quarter turn.
@@ -36,7 +39,39 @@ pub extern "C" fn dampmeadow_atan_norm(a: u32) -> u32
     F32(a).atan_norm().0
 }
 
-// Refusals 6 and 7, each with the zero word.
-const NO_SUCH_OPERATION: u64 = 0x6_0000_0000;
+// The same behind atan's gate: the refusal in the high 32 bits and the word in the low 32.
+#[no_mangle]
+pub extern "C" fn dampmeadow_atan_norm_guarded(a: u32) -> u64
+    ensures { λ r. ⌜ r ≡ answerWords (refusalOf opAtan a 0) (atanNormWord ieee a) ⌝ }
+{
+    answer_words(guard::atan_norm(F32(a)))
+}
 
-const MALFORMED: u64 = 0x7_0000_0000;
+// From here on an operation is a raw one.
+const RAW: u32 = 0x80;
+
+// The refusal by the number of words that an operation reads: 6 where it is no operation, 7 where
+// the second word is not used and not zero, else 0.
+fn shape(operands: u32, b: u32) -> u32
+    ensures { λ r. ⌜ r ≡ shapeOf operands b ⌝ }
+{
+    if operands == 0 {
+        return 6;
+    }
+    if (operands == 1) & (b != 0) {
+        return 7;
+    }
+    0
+}
+
+fn refused(refusal: u32) -> u64
+    ensures { λ r. ⌜ r ≡ packed refusal 0 ⌝ }
+{
+    refusal as u64 * 0x1_0000_0000
+}
+
+fn answer_words(answer: Answer) -> u64
+    ensures { λ r. ⌜ r ≡ packed (numberOf answer) (wordOf answer) ⌝ }
+{
+    answer.refusal() as u64 * 0x1_0000_0000 + answer.word() as u64
+}

@@ -1,64 +1,86 @@
--- `dampmeadow::dampmeadow_words` meets its contract: each return is one case of what a kernel's number of operands makes of the words. Assumes nothing.
+-- `dampmeadow::dampmeadow_words` meets its contract: the frame's shape comes first, then what the operation answers. Assumes nothing.
 use borrow.Author.Needs.{needs}
-use borrow.Author.Tests.{le-leb, lt-leb, eq-eqb, ne-eqb}
-use Prim.Native.Nat.{ℕ, _-_, _≤_}
+use borrow.Author.Tests.{le-leb, lt-leb, ne-eqb}
+use Prim.Native.Nat.{ℕ, suc, _-_, _≤_, _<_}
+use native.Mathlib.Nat.{suc-ne-zero}
 use mathlib.Core.Path.{_≡_, refl, sym, ap, _∙_}
-use mathlib.Core.Logic.{⊎-elim}
-use native.Mathlib.Omega.{arith}
-use Rattle.raw.specs.Raw.{Kernel, none, one, two, kernelOf, operandsOf, rawOf}
-use Rattle.dampmeadow.specs.Words.{refused, judged, wordsOf}
+use mathlib.Core.Bool.{Bool, true, false, cond, _&&_, not}
+use lib.Dec.{eqb}
+use Rattle.raw.specs.Raw.{kernelOf, operandsOf, rawOf}
+use Rattle.guard.specs.declared.Answer.{Answer}
+use Rattle.guard.specs.Refusals.{refusalOf}
+use Rattle.guard.specs.Guarded.{numberOf, wordOf, valueOf, GuardsNumbered}
+use Rattle.dampmeadow.specs.Words.{packed, answerWords, shapeOf, shape, framed, rawWords, guardedWords, wordsOf}
 use Rattle.dampmeadow.proofs.dampmeadow_words.Statement.{statement}
 use Rattle.dampmeadow.proofs.dampmeadow_words.Tie as tie
 
-missing : (k : Kernel) (a b : ℕ) → operandsOf k ≡ 0 → judged k a b ≡ refused 6
-missing none a b e = refl
-missing (one f) a b e = absurd (let z : ⊥ = omega arith in z)
-missing (two f) a b e = absurd (let z : ⊥ = omega arith in z)
+-- ---- a frame by its shape
 
-stray : (k : Kernel) (a b : ℕ) → operandsOf k ≡ 1 → (b ≡ 0 → ⊥) → judged k a b ≡ refused 7
-stray none a b e n = absurd (let z : ⊥ = omega arith in z)
-stray (one f) a b e n = rw (ne-eqb b 0 n)
-stray (two f) a b e n = absurd (let z : ⊥ = omega arith in z)
+misshapen : (n x : ℕ) → (n ≡ 0 → ⊥) → framed n x ≡ packed n 0
+misshapen n x h = rw (ne-eqb n 0 h)
 
-alone : (k : Kernel) (a b : ℕ) → operandsOf k ≡ 1 → b ≡ 0 → judged k a b ≡ rawOf k a b
-alone none a b e z = absurd (let y : ⊥ = omega arith in y)
-alone (one f) a b e z = rw (eq-eqb b 0 z)
-alone (two f) a b e z = absurd (let y : ⊥ = omega arith in y)
+well-shaped : (n x : ℕ) → n ≡ 0 → framed n x ≡ x
+well-shaped n x e = rw e
 
-both : (k : Kernel) (a b : ℕ) → (operandsOf k ≡ 0 → ⊥) → (operandsOf k ≡ 1 → ⊥) → judged k a b ≡ rawOf k a b
-both none a b m n = absurd (m refl)
-both (one f) a b m n = absurd (n refl)
-both (two f) a b m n = refl
-
--- from 80 on the kernel decides
-raw-words : (op a b : ℕ) → 0x80 ≤ op → wordsOf op a b ≡ judged (kernelOf (op - 0x80)) a b
+raw-words : (op a b : ℕ) → 0x80 ≤ op → wordsOf op a b ≡ rawWords (op - 0x80) a b
 raw-words op a b h = rw (le-leb 0x80 op h)
 
-returns-4 : tie.Need-returns-4
-returns-4 c =
-    let args = c .before .before .before .before .before .args in
-    let k = kernelOf (args .op - 0x80) in
-    let count = c .before .before .before .operands .ensures in
-    c .answer .ensures
-    ∙ sym (raw-words (args .op) (args .a) (args .b) (c .before .before .before .before .if1 .left)
-    ∙ ⊎-elim
-    (λ w. alone k (args .a) (args .b) (sym count ∙ w .0 .taken) (w .1 .left))
-    (λ w. both k (args .a) (args .b) (λ e. c .before .before .if2 .left (count ∙ e)) (λ e. w .left (count ∙ e)))
-    (c .before .if3 .came))
+guarded-words : (op a b : ℕ) → op < 0x80 → wordsOf op a b ≡ guardedWords op a b
+guarded-words op a b h = rw (lt-leb 0x80 op h)
+
+-- ---- a well shaped frame has an operation, so the call by number does not refuse it with 6
+
+known : (count b : ℕ) → shapeOf count b ≡ 0 → eqb count 0 ≡ false
+known count b e = go (eqb count 0) (cond (eqb count 1 && not (eqb b 0)) 7 0) e
+  where
+    go : (t : Bool) (m : ℕ) → cond t 6 m ≡ 0 → t ≡ false
+    go true m e = absurd (suc-ne-zero 5 e)
+    go false m e = refl
+
+answers : (op a b : ℕ) (r : Answer) → shape op b ≡ 0 → GuardsNumbered op a b r → packed (numberOf r) (wordOf r) ≡ answerWords (refusalOf op a b) (valueOf op a b)
+answers op a b r e g = rw (g .number, g .word, known (operandsOf (kernelOf op)) b e)
+
+raw-shape : (c : tie.After-shape) → c .shape .result ≡ shape (c .before .before .before .args .op - 0x80) (c .before .before .before .args .b)
+raw-shape c = c .shape .ensures ∙ rw (c .before .operands .ensures)
+
+guarded-shape : (c : tie.After-shape2) → c .shape2 .result ≡ shape (c .before .before .before .args .op) (c .before .before .before .args .b)
+guarded-shape c = c .shape2 .ensures ∙ rw (c .before .operands2 .ensures)
 
 pub dampmeadow-words-spec : {M : Type 1} → statement M
 dampmeadow-words-spec =
     tie.close
     (tie.spec
-    (λ c. rw (lt-leb 0x80 _ (c .if1 .taken)))
+    (λ c κs. search needs)
+    (λ c κs. search needs)
     (λ c κs. search needs)
     (λ c.
-    let args = c .before .before .before .args in
-    sym (raw-words (args .op) (args .a) (args .b) (c .before .before .if1 .left) ∙ missing (kernelOf (args .op - 0x80)) (args .a) (args .b) (sym (c .before .operands .ensures) ∙ c .if2 .taken)))
-    (λ c.
-    let args = c .before .before .before .before .before .args in
-    sym (raw-words (args .op) (args .a) (args .b) (c .before .before .before .before .if1 .left)
-    ∙ stray (kernelOf (args .op - 0x80)) (args .a) (args .b) (sym (c .before .before .before .operands .ensures) ∙ c .before .if3 .taken) (c .if4 .taken)))
+    let s = c .before .before in
+    let args = s .before .before .before .args in
+    c .refused .ensures
+    ∙ ap (λ (n : ℕ). packed n 0) (raw-shape s)
+    ∙ sym (raw-words (args .op) (args .a) (args .b) (s .before .before .if1 .taken) ∙ misshapen _ _ (λ e. c .before .if2 .taken (raw-shape s ∙ e))))
     (λ c κs. search needs)
     (λ c. search needs)
-    returns-4)
+    (λ c.
+    let s = c .before .before in
+    let args = s .before .before .before .args in
+    c .answer .ensures
+    ∙ sym (raw-words (args .op) (args .a) (args .b) (s .before .before .if1 .taken) ∙ well-shaped _ _ (sym (raw-shape s) ∙ c .before .if2 .left)))
+    (λ c κs. search needs)
+    (λ c κs. search needs)
+    (λ c κs. search needs)
+    (λ c.
+    let s = c .before .before in
+    let args = s .before .before .before .args in
+    c .refused2 .ensures
+    ∙ ap (λ (n : ℕ). packed n 0) (guarded-shape s)
+    ∙ sym (guarded-words (args .op) (args .a) (args .b) (s .before .before .if1 .left) ∙ misshapen _ _ (λ e. c .before .if3 .taken (guarded-shape s ∙ e))))
+    (λ c κs. search needs)
+    (λ c κs. search needs)
+    (λ c.
+    let s = c .before .before .before in
+    let args = s .before .before .before .args in
+    let well = sym (guarded-shape s) ∙ c .before .before .if3 .left in
+    c .answer-words .ensures
+    ∙ answers (args .op) (args .a) (args .b) (c .before .call .result) well (c .before .call .ensures)
+    ∙ sym (guarded-words (args .op) (args .a) (args .b) (s .before .before .if1 .left) ∙ well-shaped _ _ well)))
