@@ -6,4 +6,7 @@ pub mod Open
 pub mod NoNan
 mod Guards
 pub mod Meaning
+pub mod Laws
+pub mod Edges
 mod Both
+pub mod OneAnswer

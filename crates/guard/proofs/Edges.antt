@@ -1,0 +1,123 @@
+-- Document 01's gates, both sides of every end, in one table of the definitions: the refusal of an operation and two words. And the ends
+-- of the gates as the numbers that the document gives. Assumes nothing.
+use Prim.Native.Nat.{ℕ, _+_}
+use mathlib.Core.Path.{_≡_, refl}
+use mathlib.Core.Bool.{true, false}
+use mathlib.Core.List.{List, [], _∷_, map}
+use lib.IntN.{pos, negsuc}
+use lib.Ieee.{Float, fin, binary32, ofBits}
+use Rattle.guard.specs.Operations.{opTrunc, opFract, opFloor, opCeil, opRound, opCopysign, opSqrt, opInvsqrt, opInv, opRecip, opExp, opLn, opPowi, opPowf, opAtan, opAtan2, opCos, opSin, opHypot}
+use Rattle.guard.specs.Gates.{gateOf, judged}
+use Rattle.guard.specs.Refusals.{refusalOf}
+
+-- ---- the ends as numbers: 2 ^ 32, 2 ^ 31, 2 ^ 23, 2 ^ 126, 2 ^ 125, -87, 88, 2 ^ 64, 2 ^ -60, 2 ^ 60 and 1024
+
+-- the word above an end that is under a bound
+abbrev under : ℕ → ℕ
+under op = gateOf op .high + 1
+
+abbrev to : ℕ → ℕ
+to op = gateOf op .high
+
+abbrev from : ℕ → ℕ
+from op = gateOf op .low
+
+pub ends-are-numbers : map (ofBits binary32)
+    (under opTrunc ∷ under opFract ∷ to opFloor ∷ to opCeil ∷ under opRound ∷ to opInv ∷ to opRecip ∷ from opExp ∷ to opExp ∷ from opPowf ∷ to opPowf
+    ∷ under opAtan ∷ from opAtan2 ∷ to opAtan2 ∷ from opHypot ∷ to opHypot ∷ to opCos ∷ to opSin ∷ [])
+    ≡ fin false 1 (pos 32) ∷ fin false 1 (pos 32) ∷ fin false 1 (pos 31) ∷ fin false 1 (pos 31) ∷ fin false 1 (pos 23) ∷ fin false 1 (pos 126) ∷ fin false 1 (pos 125)
+    ∷ fin true 87 (pos 0) ∷ fin false 11 (pos 3) ∷ fin true 87 (pos 0) ∷ fin false 11 (pos 3)
+    ∷ fin false 1 (pos 64) ∷ fin false 1 (negsuc 59) ∷ fin false 1 (pos 60) ∷ fin false 1 (negsuc 59) ∷ fin false 1 (pos 60) ∷ fin false 1 (pos 10) ∷ fin false 1 (pos 10) ∷ []
+unfolding ofBits
+ends-are-numbers = refl
+
+-- ---- both sides of each: an operation, its two words, and the refusal
+
+pub record Case : Type 0 where
+  pub op : ℕ
+  pub first : ℕ
+  pub second : ℕ
+  pub refusal : ℕ
+
+abbrev at : ℕ → ℕ → ℕ → ℕ → Case
+at op a b n = record { op = op; first = a; second = b; refusal = n }
+
+abbrev pub cases : List Case
+cases =
+    at opTrunc 0x4f7f_ffff 0x0000_0000 0
+    ∷ at opTrunc 0xcf7f_ffff 0x0000_0000 0
+    ∷ at opTrunc 0x4f80_0000 0x0000_0000 4
+    ∷ at opTrunc 0xcf80_0000 0x0000_0000 4
+    ∷ at opFract 0x4f7f_ffff 0x0000_0000 0
+    ∷ at opFract 0x4f80_0000 0x0000_0000 4
+    ∷ at opFloor 0x4f00_0000 0x0000_0000 0
+    ∷ at opFloor 0xcf00_0000 0x0000_0000 0
+    ∷ at opFloor 0x4f00_0001 0x0000_0000 4
+    ∷ at opFloor 0xcf00_0001 0x0000_0000 4
+    ∷ at opFloor 0x8000_0001 0x0000_0000 0
+    ∷ at opCeil 0x4f00_0000 0x0000_0000 0
+    ∷ at opCeil 0x4f00_0001 0x0000_0000 4
+    ∷ at opRound 0x4aff_ffff 0x0000_0000 0
+    ∷ at opRound 0x4b00_0000 0x0000_0000 4
+    ∷ at opRound 0x3eff_ffff 0x0000_0000 4
+    ∷ at opRound 0xbeff_ffff 0x0000_0000 4
+    ∷ at opRound 0x3eff_fffe 0x0000_0000 0
+    ∷ at opRound 0x3f00_0000 0x0000_0000 0
+    ∷ at opSqrt 0x0080_0000 0x0000_0000 0
+    ∷ at opSqrt 0x007f_ffff 0x0000_0000 2
+    ∷ at opSqrt 0x8000_0000 0x0000_0000 2
+    ∷ at opSqrt 0x8080_0000 0x0000_0000 3
+    ∷ at opSqrt 0x7f7f_ffff 0x0000_0000 0
+    ∷ at opSqrt 0x7f80_0000 0x0000_0000 1
+    ∷ at opInvsqrt 0x0080_0000 0x0000_0000 0
+    ∷ at opInvsqrt 0x007f_ffff 0x0000_0000 2
+    ∷ at opInv 0x7e80_0000 0x0000_0000 0
+    ∷ at opInv 0x7e80_0001 0x0000_0000 4
+    ∷ at opInv 0xfe80_0001 0x0000_0000 3
+    ∷ at opRecip 0x7e00_0000 0x0000_0000 0
+    ∷ at opRecip 0xfe00_0000 0x0000_0000 0
+    ∷ at opRecip 0x7e00_0001 0x0000_0000 4
+    ∷ at opRecip 0xfe00_0001 0x0000_0000 4
+    ∷ at opExp 0xc2ae_0000 0x0000_0000 0
+    ∷ at opExp 0xc2ae_0001 0x0000_0000 4
+    ∷ at opExp 0x42b0_0000 0x0000_0000 0
+    ∷ at opExp 0x42b0_0001 0x0000_0000 4
+    ∷ at opExp 0x8000_0000 0x0000_0000 0
+    ∷ at opLn 0x0080_0000 0x0000_0000 0
+    ∷ at opLn 0x007f_ffff 0x0000_0000 2
+    ∷ at opPowi 0x3f80_0000 0x0010_0000 0
+    ∷ at opPowi 0x3f80_0000 0x0010_0001 5
+    ∷ at opPowi 0x3f80_0000 0xfff0_0000 0
+    ∷ at opPowi 0x3f80_0000 0xffef_ffff 5
+    ∷ at opPowi 0x3f80_0000 0x7f80_0000 5
+    ∷ at opPowi 0x3f80_0000 0x8000_0000 5
+    ∷ at opPowi 0x007f_ffff 0x0000_0000 2
+    ∷ at opCopysign 0x3f80_0000 0x7f80_0000 1
+    ∷ at opCopysign 0x3f80_0000 0x7f7f_ffff 0
+    ∷ at opAtan 0x5f7f_ffff 0x0000_0000 0
+    ∷ at opAtan 0xdf7f_ffff 0x0000_0000 0
+    ∷ at opAtan 0x5f80_0000 0x0000_0000 4
+    ∷ at opAtan2 0x2180_0000 0x0000_0000 0
+    ∷ at opAtan2 0x217f_ffff 0x0000_0000 4
+    ∷ at opAtan2 0x0000_0000 0xa180_0000 0
+    ∷ at opAtan2 0x0000_0000 0xa17f_ffff 4
+    ∷ at opAtan2 0x5d80_0000 0x0000_0000 0
+    ∷ at opAtan2 0x5d80_0001 0x0000_0000 4
+    ∷ at opAtan2 0x0000_0000 0x5d80_0000 0
+    ∷ at opAtan2 0x0000_0000 0x5d80_0001 4
+    ∷ at opAtan2 0x0000_0000 0x0000_0000 4
+    ∷ at opAtan2 0x0000_0000 0x7f80_0000 1
+    ∷ at opHypot 0x2180_0000 0x0000_0000 0
+    ∷ at opHypot 0x217f_ffff 0x0000_0000 4
+    ∷ at opHypot 0x0000_0000 0x5d80_0000 0
+    ∷ at opHypot 0x0000_0000 0x5d80_0001 4
+    ∷ at opCos 0x4480_0000 0x0000_0000 0
+    ∷ at opCos 0xc480_0000 0x0000_0000 0
+    ∷ at opCos 0x4480_0001 0x0000_0000 4
+    ∷ at opSin 0x4480_0000 0x0000_0000 0
+    ∷ at opSin 0x4480_0001 0x0000_0000 4
+    ∷ []
+
+pub edges : map (λ c. refusalOf (c .op) (c .first) (c .second)) cases ≡ map (λ c. c .refusal) cases
+unfolding refusalOf judged
+edges = refl
