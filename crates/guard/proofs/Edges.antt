@@ -7,20 +7,20 @@ use mathlib.Core.List.{List, [], _∷_, map}
 use lib.IntN.{pos, negsuc}
 use lib.Ieee.{Float, fin, binary32, ofBits}
 use Rattle.guard.specs.Operations.{opTrunc, opFract, opFloor, opCeil, opRound, opCopysign, opSqrt, opInvsqrt, opInv, opRecip, opExp, opLn, opPowi, opPowf, opAtan, opAtan2, opCos, opSin, opHypot}
-use Rattle.guard.specs.Gates.{gateOf, judged}
+use Rattle.guard.specs.Gates.{low, high, gateOf, judged}
 use Rattle.guard.specs.Refusals.{refusalOf}
 
 -- ---- the ends as numbers: 2 ^ 32, 2 ^ 31, 2 ^ 23, 2 ^ 126, 2 ^ 125, -87, 88, 2 ^ 64, 2 ^ -60, 2 ^ 60 and 1024
 
 -- the word above an end that is under a bound
 abbrev under : ℕ → ℕ
-under op = gateOf op .high + 1
+under op = high (gateOf op) + 1
 
 abbrev to : ℕ → ℕ
-to op = gateOf op .high
+to op = high (gateOf op)
 
 abbrev from : ℕ → ℕ
-from op = gateOf op .low
+from op = low (gateOf op)
 
 pub ends-are-numbers : map (ofBits binary32)
     (under opTrunc ∷ under opFract ∷ to opFloor ∷ to opCeil ∷ under opRound ∷ to opInv ∷ to opRecip ∷ from opExp ∷ to opExp ∷ from opPowf ∷ to opPowf

@@ -36,7 +36,7 @@ use Rattle.sizes.proofs.Hypot.{hypot-number}
 use Rattle.sizes.proofs.Powi.{powi-number}
 use Rattle.guard.specs.declared.gate.Gate.{Gate}
 use Rattle.guard.specs.Operations.{opTrunc, opFloor, opRound, opInv, opRecip, opExp, opAtan, opAtan2, opCos, opSin}
-use Rattle.guard.specs.Gates.{gateOf, judged, place, passes, larger}
+use Rattle.guard.specs.Gates.{low, high, gateOf, judged, place, passes, larger}
 use Rattle.guard.specs.Refusals.{isPastPower, refusalOf}
 use Rattle.guard.proofs.Open.{Open, opened, finite-of, not-black, positive, normal-of, Between, both, between}
 
@@ -46,8 +46,8 @@ use Rattle.guard.proofs.Open.{Open, opened, finite-of, not-black, posit
 small : (n : ℕ) → T (ltb n (top binary32)) → n < top binary32
 small n t = ltb→lt n (top binary32) t
 
-by-magnitude : (g : Gate) (a : ℕ) → T (ltb (g .low) (top binary32)) → T (ltb (g .high) (top binary32)) → passes g (magnitude binary32 a) ≡ true → Between g (magnitude binary32 a)
-by-magnitude g a l h e = between g (magnitude binary32 a) (small (g .low) l) (small (g .high) h) (magnitude-lt binary32 a) e
+by-magnitude : (g : Gate) (a : ℕ) → T (ltb (low g) (top binary32)) → T (ltb (high g) (top binary32)) → passes g (magnitude binary32 a) ≡ true → Between g (magnitude binary32 a)
+by-magnitude g a l h e = between g (magnitude binary32 a) (small (low g) l) (small (high g) h) (magnitude-lt binary32 a) e
 
 -- ---- the operands as the kernels' laws have them
 
@@ -132,45 +132,46 @@ no-least b h n e = true≢false (sym (ap isPastPower (sym (ofZ-toZ {w = w32} (re
 abbrev IsNumber : ℕ → Kernel → Type 0
 IsNumber op k = (a b : ℕ) → a < 2 ^ 32 → b < 2 ^ 32 → Open op a b → nanBits binary32 (rawOf k a b) ≡ false
 
-abbrev Each : ℕ → List Kernel → Type 0
-Each op [] = Unit {0}
-Each op (k ∷ ks) = IsNumber op k × Each (suc op) ks
+infixr 5 _⨟_
+data Each : ℕ → List Kernel → Type 0 where
+  done : {op : ℕ} → Each op []
+  _⨟_ : {op : ℕ} {k : Kernel} {ks : List Kernel} → IsNumber op k → Each (suc op) ks → Each op (k ∷ ks)
 
 no-kernel : (op : ℕ) → IsNumber op none
 unfolding nanBits
 no-kernel op a b h k o = refl
 
 at : (op : ℕ) (ks : List Kernel) (i : ℕ) → Each op ks → IsNumber (op + i) (getD ks i none)
-at op [] i r = no-kernel (op + i)
-at op (k ∷ ks) zero r = subst (λ (n : ℕ). IsNumber n k) (sym (add-zero op)) (r .0)
-at op (k ∷ ks) (suc i) r = subst (λ (n : ℕ). IsNumber n (getD ks i none)) (suc-add op i ∙ sym (add-suc op i)) (at (suc op) ks i (r .1))
+at op [] i done = no-kernel (op + i)
+at op (k ∷ ks) zero (x ⨟ xs) = subst (λ (n : ℕ). IsNumber n k) (sym (add-zero op)) x
+at op (k ∷ ks) (suc i) (x ⨟ xs) = subst (λ (n : ℕ). IsNumber n (getD ks i none)) (suc-add op i ∙ sym (add-suc op i)) (at (suc op) ks i xs)
 
 each : Each 0 kernels
 unfolding judged
 each =
-    (no-kernel 0,
-    ((λ a b h k o. trunc-number a h (under32 a (o .gate))),
-    ((λ a b h k o. fract-number a (under32 a (o .gate))),
-    ((λ a b h k o. floor-number a (to31 a (o .gate))),
-    ((λ a b h k o. ceil-number a (to31 a (o .gate))),
-    ((λ a b h k o. round-number a (under23 a (o .gate))),
-    ((λ a b h k o. abs-number a (finite-of a (o .first))),
-    ((λ a b h k o. copysign-number a b (finite-of a (o .first))),
-    ((λ a b h k o. signum-number a (finite-of a (o .first))),
-    ((λ a b h k o. sqrt-number a (normal-of a (o .first) (o .black) (o .sign))),
-    ((λ a b h k o. invsqrt-number a (normal-of a (o .first) (o .black) (o .sign))),
-    ((λ a b h k o. inv-number a (invertible a b o)),
-    ((λ a b h k o. recip-number a h (not-black a (o .black)) (by-magnitude (gateOf opRecip) a tt tt (o .gate) .high)),
-    ((λ a b h k o. exp-number a (within-exp a h (o .gate))),
-    ((λ a b h k o. ln-number a (normal-of a (o .first) (o .black) (o .sign))),
-    ((λ a b h k o. powi-number a (toZ w32 b) h (not-black a (o .black)) (finite-of a (o .first)) (no-least b k (o .power))),
-    ((λ a b h k o. powf-number a b (normal-of a (o .first) (o .black) (o .sign)) (within-exp (productWord a b) (product-lt a b) (o .gate))),
-    ((λ a b h k o. atan-number a h (under64 a (o .gate))),
-    ((λ a b h k o. let p = pair a b (o .gate) in atan2-number a b h k (p .first) (p .second) (p .either)),
-    ((λ a b h k o. cos-number a h (by-magnitude (gateOf opCos) a tt tt (o .gate) .high)),
-    ((λ a b h k o. sin-number a h (by-magnitude (gateOf opSin) a tt tt (o .gate) .high)),
-    ((λ a b h k o. let p = pair a b (o .gate) in hypot-number a b h k (p .first) (p .second)),
-    tt))))))))))))))))))))))
+    no-kernel 0
+    ⨟ (λ a b h k o. trunc-number a h (under32 a (o .gate)))
+    ⨟ (λ a b h k o. fract-number a (under32 a (o .gate)))
+    ⨟ (λ a b h k o. floor-number a (to31 a (o .gate)))
+    ⨟ (λ a b h k o. ceil-number a (to31 a (o .gate)))
+    ⨟ (λ a b h k o. round-number a (under23 a (o .gate)))
+    ⨟ (λ a b h k o. abs-number a (finite-of a (o .first)))
+    ⨟ (λ a b h k o. copysign-number a b (finite-of a (o .first)))
+    ⨟ (λ a b h k o. signum-number a (finite-of a (o .first)))
+    ⨟ (λ a b h k o. sqrt-number a (normal-of a (o .first) (o .black) (o .sign)))
+    ⨟ (λ a b h k o. invsqrt-number a (normal-of a (o .first) (o .black) (o .sign)))
+    ⨟ (λ a b h k o. inv-number a (invertible a b o))
+    ⨟ (λ a b h k o. recip-number a h (not-black a (o .black)) (by-magnitude (gateOf opRecip) a tt tt (o .gate) .high))
+    ⨟ (λ a b h k o. exp-number a (within-exp a h (o .gate)))
+    ⨟ (λ a b h k o. ln-number a (normal-of a (o .first) (o .black) (o .sign)))
+    ⨟ (λ a b h k o. powi-number a (toZ w32 b) h (not-black a (o .black)) (finite-of a (o .first)) (no-least b k (o .power)))
+    ⨟ (λ a b h k o. powf-number a b (normal-of a (o .first) (o .black) (o .sign)) (within-exp (productWord a b) (product-lt a b) (o .gate)))
+    ⨟ (λ a b h k o. atan-number a h (under64 a (o .gate)))
+    ⨟ (λ a b h k o. let p = pair a b (o .gate) in atan2-number a b h k (p .first) (p .second) (p .either))
+    ⨟ (λ a b h k o. cos-number a h (by-magnitude (gateOf opCos) a tt tt (o .gate) .high))
+    ⨟ (λ a b h k o. sin-number a h (by-magnitude (gateOf opSin) a tt tt (o .gate) .high))
+    ⨟ (λ a b h k o. let p = pair a b (o .gate) in hypot-number a b h k (p .first) (p .second))
+    ⨟ done
 
 pub no-nan : (op a b : ℕ) → a < 2 ^ 32 → b < 2 ^ 32 → refusalOf op a b ≡ 0 → nanBits binary32 (rawOf (kernelOf op) a b) ≡ false
 no-nan op a b h k e = subst (λ (n : ℕ). IsNumber n (kernelOf op)) (zero-add op) (at 0 kernels op each) a b h k (opened op a b e)

@@ -16,7 +16,7 @@ use Rattle.format.specs.Estimates.{Normal}
 use Rattle.format.proofs.Fields.{hid-pos, exponent-lt}
 use Rattle.guard.specs.declared.gate.Gate.{Gate}
 use Rattle.guard.specs.Operations.{among, opPowi}
-use Rattle.guard.specs.Gates.{gateOf, judged, place, passes}
+use Rattle.guard.specs.Gates.{low, high, hole, gateOf, judged, place, passes}
 use Rattle.guard.specs.Refusals.{isEndless, isBlack, isPastPower, twoFloats, refusesBlack, refusesSign, refusalOf}
 use Rattle.guard.proofs.First.{none-holds}
 
@@ -65,20 +65,20 @@ normal-of w e b n =
 -- ---- the gate of a word whose sign is clear
 
 pub record Between (g : Gate) (w : ℕ) : Type 0 where
-  pub low : g .low ≤ w
-  pub high : w ≤ g .high
-  pub clear : w ≡ g .hole → ⊥
+  pub low : low g ≤ w
+  pub high : w ≤ high g
+  pub clear : w ≡ hole g → ⊥
 
 pub both : (p q : Bool) → (p && q) ≡ true → (p ≡ true) × (q ≡ true)
 both true q e = (refl, e)
 both false q e = absurd (false≢true e)
 
-pub between : (g : Gate) (w : ℕ) → g .low < top binary32 → g .high < top binary32 → w < top binary32 → passes g w ≡ true → Between g w
+pub between : (g : Gate) (w : ℕ) → low g < top binary32 → high g < top binary32 → w < top binary32 → passes g w ≡ true → Between g w
 between g w l h k e =
     let p = both _ _ e in
     let q = both _ _ (p .0) in
     record {
-      low = let x = rw (lt-leb (top binary32) (g .low) l, lt-leb (top binary32) w k) at (leb-true (place (g .low)) (place w) (q .0)) in omega arith;
-      high = let x = rw (lt-leb (top binary32) w k, lt-leb (top binary32) (g .high) h) at (leb-true (place w) (place (g .high)) (q .1)) in omega arith;
+      low = let x = rw (lt-leb (top binary32) (low g) l, lt-leb (top binary32) w k) at (leb-true (place (low g)) (place w) (q .0)) in omega arith;
+      high = let x = rw (lt-leb (top binary32) w k, lt-leb (top binary32) (high g) h) at (leb-true (place w) (place (high g)) (q .1)) in omega arith;
       clear = eqb-false _ _ (not-true _ (p .1));
     }

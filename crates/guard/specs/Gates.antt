@@ -11,9 +11,21 @@ use Rattle.float.specs.Powf.{productWord}
 use Rattle.guard.specs.declared.gate.Gate.{Gate}
 use Rattle.guard.specs.Operations.{among, opExp, opPowf, opAtan2, opHypot}
 
--- no word is held back: ffffffff is a NaN, which no gate's ends take in
+abbrev pub low : Gate → ℕ
+low g = g .0
+
+abbrev pub high : Gate → ℕ
+high g = g .1
+
+abbrev pub hole : Gate → ℕ
+hole g = g .2
+
+-- the whole row; and one with no word held back: ffffffff is a NaN, which no gate's ends take in
+abbrev pub row : ℕ → ℕ → ℕ → Gate
+row l h n = record { 0 = l; 1 = h; 2 = n }
+
 abbrev pub between : ℕ → ℕ → Gate
-between l h = record { low = l; high = h; hole = 0xffff_ffff }
+between l h = row l h 0xffff_ffff
 
 -- every magnitude passes
 abbrev pub unbounded : Gate
@@ -27,7 +39,7 @@ gates =
     ∷ between 0x0000_0000 0x4f7f_ffff
     ∷ between 0x0000_0000 0x4f00_0000
     ∷ between 0x0000_0000 0x4f00_0000
-    ∷ record { low = 0x0000_0000; high = 0x4aff_ffff; hole = 0x3eff_ffff }
+    ∷ row 0x0000_0000 0x4aff_ffff 0x3eff_ffff
     ∷ unbounded
     ∷ unbounded
     ∷ unbounded
@@ -54,7 +66,7 @@ abbrev pub place : ℕ → ℕ
 place w = cond (negative binary32 w) (2 * top binary32 - 1 - w) (top binary32 + w)
 
 abbrev pub passes : Gate → ℕ → Bool
-passes g w = (leb (place (g .low)) (place w) && leb (place w) (place (g .high))) && not (eqb w (g .hole))
+passes g w = (leb (place (low g)) (place w) && leb (place w) (place (high g))) && not (eqb w (hole g))
 
 -- the larger of two magnitudes
 abbrev pub larger : ℕ → ℕ → ℕ

@@ -6,47 +6,60 @@ use float::F32;
 
 // The lowest and the highest word that pass, both allowed, and a word between them that does not.
 // Words are ordered as the numbers that they are, -0 just below +0.
-pub struct Gate {
-    pub low: u32,
-    pub high: u32,
-    pub hole: u32,
-}
+pub struct Gate(pub u32, pub u32, pub u32);
 
 // A NaN, which no gate's ends take in: no word is held back.
 const NONE: u32 = 0xffff_ffff;
 
 // Every magnitude passes.
-const OPEN: Gate = Gate {
-    low: 0x0000_0000,
-    high: 0x7fff_ffff,
-    hole: NONE,
-};
+const OPEN: Gate = Gate(0x0000_0000, 0x7fff_ffff, NONE);
 
 // By operation number, from 00, which is no operation. An end that is "under" a bound is the word
 // below it.
 const GATES: [Gate; 22] = [
     OPEN,
-    Gate { low: 0x0000_0000, high: 0x4f7f_ffff, hole: NONE },
-    Gate { low: 0x0000_0000, high: 0x4f7f_ffff, hole: NONE },
-    Gate { low: 0x0000_0000, high: 0x4f00_0000, hole: NONE },
-    Gate { low: 0x0000_0000, high: 0x4f00_0000, hole: NONE },
-    Gate { low: 0x0000_0000, high: 0x4aff_ffff, hole: 0x3eff_ffff },
+    // trunc
+    Gate(0x0000_0000, 0x4f7f_ffff, NONE),
+    // fract
+    Gate(0x0000_0000, 0x4f7f_ffff, NONE),
+    // floor
+    Gate(0x0000_0000, 0x4f00_0000, NONE),
+    // ceil
+    Gate(0x0000_0000, 0x4f00_0000, NONE),
+    // round
+    Gate(0x0000_0000, 0x4aff_ffff, 0x3eff_ffff),
+    // abs
     OPEN,
+    // copysign
     OPEN,
+    // signum
     OPEN,
+    // sqrt
     OPEN,
+    // invsqrt
     OPEN,
-    Gate { low: 0x0000_0000, high: 0x7e80_0000, hole: NONE },
-    Gate { low: 0x0000_0000, high: 0x7e00_0000, hole: NONE },
-    Gate { low: 0xc2ae_0000, high: 0x42b0_0000, hole: NONE },
+    // inv
+    Gate(0x0000_0000, 0x7e80_0000, NONE),
+    // recip
+    Gate(0x0000_0000, 0x7e00_0000, NONE),
+    // exp
+    Gate(0xc2ae_0000, 0x42b0_0000, NONE),
+    // ln
     OPEN,
+    // powi
     OPEN,
-    Gate { low: 0xc2ae_0000, high: 0x42b0_0000, hole: NONE },
-    Gate { low: 0x0000_0000, high: 0x5f7f_ffff, hole: NONE },
-    Gate { low: 0x2180_0000, high: 0x5d80_0000, hole: NONE },
-    Gate { low: 0x0000_0000, high: 0x4480_0000, hole: NONE },
-    Gate { low: 0x0000_0000, high: 0x4480_0000, hole: NONE },
-    Gate { low: 0x2180_0000, high: 0x5d80_0000, hole: NONE },
+    // powf
+    Gate(0xc2ae_0000, 0x42b0_0000, NONE),
+    // atan
+    Gate(0x0000_0000, 0x5f7f_ffff, NONE),
+    // atan2
+    Gate(0x2180_0000, 0x5d80_0000, NONE),
+    // cos
+    Gate(0x0000_0000, 0x4480_0000, NONE),
+    // sin
+    Gate(0x0000_0000, 0x4480_0000, NONE),
+    // hypot
+    Gate(0x2180_0000, 0x5d80_0000, NONE),
 ];
 
 // The row of an operation. The whole table is copied to read it: keep it out of loops.
@@ -73,7 +86,7 @@ pub fn passes(gate: Gate, w: u32) -> bool
     ensures { λ r. ⌜ r ≡ passes gate w ⌝ }
 {
     let at = place(w);
-    (place(gate.low) <= at) & (at <= place(gate.high)) & (w != gate.hole)
+    (place(gate.0) <= at) & (at <= place(gate.1)) & (w != gate.2)
 }
 
 fn larger(a: F32, b: F32) -> u32

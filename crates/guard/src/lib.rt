@@ -119,7 +119,10 @@ pub fn abs(x: F32) -> Answer
 pub fn copysign(x: F32, sign: F32) -> Answer
     ensures { λ r. ⌜ Guards opCopysign (x .0) (sign .0) r ⌝ }
 {
-    answered(refusal::first(number::COPYSIGN, x, sign.0), x.copysign(sign))
+    answered(
+        refusal::first(number::COPYSIGN, x, sign.0),
+        x.copysign(sign),
+    )
 }
 
 pub fn signum(x: F32) -> Answer
@@ -171,7 +174,10 @@ pub fn ln(x: F32) -> Answer
 pub fn powi(x: F32, n: i32) -> Answer
     ensures { λ r. ⌜ Guards opPowi (x .0) (ofZ w32 n) r ⌝ }
 {
-    answered(refusal::first(number::POWI, x, cast::bits_of_i32(n)), x.powi(n))
+    answered(
+        refusal::first(number::POWI, x, cast::bits_of_i32(n)),
+        x.powi(n),
+    )
 }
 
 pub fn powf(x: F32, n: F32) -> Answer
