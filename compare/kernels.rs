@@ -1,12 +1,14 @@
-//! What is compared: each kernel of ours under its number, beside the crate's, with the rule by which two words agree.
+//! What is compared: each kernel of ours, raw and guarded, beside the crate's, with the rule by which two words agree.
 
-use crate::sweep::{Count, Difference};
+use crate::gates::Gate;
+use crate::sweep::{Count, Trial};
 use micromath::{helpers, F32};
 
 #[link(name = "dampmeadow", kind = "static")]
 extern "C" {
     fn dampmeadow_words(op: u32, a: u32, b: u32) -> u64;
     fn dampmeadow_atan_norm(a: u32) -> u32;
+    fn dampmeadow_atan_norm_guarded(a: u32) -> u64;
 }
 
 #[link(name = "probe", kind = "static")]
@@ -35,53 +37,100 @@ pub enum Takes {
     Two,
     /// A number and a power in two's complement.
     Power,
+    /// A number and a power that is a number too.
+    FloatPower,
 }
 
 /// When the crate's word and ours agree.
-#[derive(Clone, Copy, PartialEq)]
+#[derive(Clone, Copy)]
 pub enum Agree {
     /// Bit for bit.
     Exact,
     /// Bit for bit, but that where the crate gives any NaN ours is 7fc00000.
     Nan,
+    /// Behind a gate: ours refuses what the gate does, and its answers are the crate's bit for bit and no NaN.
+    Guarded(Gate),
+}
+
+/// How a kernel of ours is called: by its number among the operations, or by an export of its own.
+#[derive(Clone, Copy)]
+pub enum Call {
+    Number(u32),
+    Own(fn(u32, u32) -> u64),
 }
 
 pub struct Kernel {
     pub name: &'static str,
-    /// Its number among the operations; the helpers have none.
-    pub number: Option<u32>,
+    pub call: Call,
     pub takes: Takes,
     pub agree: Agree,
     /// The words that document 01 has a run skip.
     pub skips: fn(u32, u32) -> bool,
     pub theirs: fn(u32, u32) -> u32,
-    pub ours: fn(u32, u32) -> u64,
 }
 
 impl Kernel {
     pub fn label(&self) -> String {
-        match self.number {
-            Some(n) => format!("{n:02x} {}", self.name),
-            None => self.name.to_string(),
+        match self.call {
+            Call::Number(_) => format!("{} {}", self.key(), self.name),
+            Call::Own(_) => self.key(),
         }
     }
 
     /// What `--only` calls it: its number, or its name where it has none.
     pub fn key(&self) -> String {
-        self.number.map_or(self.name.to_string(), |n| format!("{n:02x}"))
+        match self.call {
+            Call::Number(n) => format!("{n:02x}"),
+            Call::Own(_) if self.is_guarded() => format!("{} guarded", self.name),
+            Call::Own(_) => self.name.to_string(),
+        }
     }
 
-    /// Whether both answer the same to these words.
+    pub fn is_guarded(&self) -> bool {
+        matches!(self.agree, Agree::Guarded(_))
+    }
+
+    /// The refusal that document 01 gives for these words, or 0; only a guarded kernel has any.
     #[inline(always)]
-    pub fn same(&self, a: u32, b: u32) -> bool {
-        let theirs = (self.theirs)(a, b);
-        let ours = (self.ours)(a, b);
-        let expected = if self.agree == Agree::Nan && is_nan(theirs) { 0x7fc0_0000 } else { theirs };
-        ours == expected as u64
+    pub fn refusal(&self, a: u32, b: u32) -> u64 {
+        match self.agree {
+            Agree::Guarded(gate) => gate.refusal(a, b),
+            Agree::Exact | Agree::Nan => 0,
+        }
     }
 
-    pub fn difference(&self, a: u32, b: u32) -> Difference {
-        Difference { a, b: if self.takes == Takes::One { None } else { Some(b) }, theirs: (self.theirs)(a, b) as u64, ours: (self.ours)(a, b) }
+    /// The word that ours has to answer with, if any will do.
+    #[inline(always)]
+    pub fn answer(&self, a: u32, b: u32) -> Option<u64> {
+        let theirs = (self.theirs)(a, b);
+        match self.agree {
+            Agree::Nan if is_nan(theirs) => Some(0x7fc0_0000),
+            Agree::Guarded(_) if is_nan(theirs) => None,
+            _ => Some(theirs as u64),
+        }
+    }
+
+    /// What ours has to give, if anything will do. The crate is not called where document 01 refuses.
+    #[inline(always)]
+    pub fn expected(&self, a: u32, b: u32) -> Option<u64> {
+        match self.refusal(a, b) {
+            0 => self.answer(a, b),
+            refusal => Some(refusal << 32),
+        }
+    }
+
+    /// What ours gives: a refusal in the high half, a word in the low.
+    #[inline(always)]
+    pub fn ours(&self, a: u32, b: u32) -> u64 {
+        match self.call {
+            Call::Number(n) => words(n, a, b),
+            Call::Own(call) => call(a, b),
+        }
+    }
+
+    /// One call of ours, with what it should give.
+    pub fn trial(&self, a: u32, b: u32, expected: Option<u64>) -> Trial {
+        Trial { call: self.label(), a, b: if self.takes == Takes::One { None } else { Some(b) }, expected, ours: self.ours(a, b) }
     }
 }
 
@@ -112,18 +161,19 @@ macro_rules! raw {
         raw!($number, $name, $takes, $agree, $theirs, |_, _| false)
     };
     ($number:literal, $name:literal, $takes:ident, $agree:ident, $theirs:expr, $skips:expr) => {
-        Kernel { name: $name, number: Some($number), takes: Takes::$takes, agree: Agree::$agree, skips: $skips, theirs: $theirs, ours: |a, b| words($number, a, b) }
+        Kernel { name: $name, call: Call::Number($number), takes: Takes::$takes, agree: Agree::$agree, skips: $skips, theirs: $theirs }
     };
 }
 
-/// A cast or a helper, by its own exported call.
-macro_rules! helper {
+/// What has no number, by its own exported call.
+macro_rules! own {
     ($name:literal, $takes:ident, $agree:ident, $theirs:expr, $ours:expr) => {
-        Kernel { name: $name, number: None, takes: Takes::$takes, agree: Agree::$agree, skips: |_, _| false, theirs: $theirs, ours: $ours }
+        Kernel { name: $name, call: Call::Own($ours), takes: Takes::$takes, agree: Agree::$agree, skips: |_, _| false, theirs: $theirs }
     };
 }
 
-pub fn all() -> Vec<Kernel> {
+/// The raw kernels.
+fn raw() -> Vec<Kernel> {
     vec![
         raw!(0x81, "trunc", One, Nan, |a, _| f(a).trunc().to_bits()),
         raw!(0x82, "fract", One, Nan, |a, _| f(a).fract().to_bits()),
@@ -140,42 +190,56 @@ pub fn all() -> Vec<Kernel> {
         raw!(0x8d, "exp", One, Nan, |a, _| f(a).exp().to_bits(), |a, _| is_nan(a)),
         raw!(0x8e, "ln", One, Nan, |a, _| f(a).ln().to_bits()),
         raw!(0x8f, "powi", Power, Nan, |a, b| f(a).powi(b as i32).to_bits(), |_, b| b as i32 == i32::MIN),
-        raw!(0x90, "powf", Two, Nan, |a, b| f(a).powf(f(b)).to_bits(), nan_reaches_exp),
+        raw!(0x90, "powf", FloatPower, Nan, |a, b| f(a).powf(f(b)).to_bits(), nan_reaches_exp),
         raw!(0x91, "atan", One, Nan, |a, _| f(a).atan().to_bits()),
         raw!(0x92, "atan2", Two, Nan, |a, b| f(a).atan2(f(b)).to_bits()),
         raw!(0x93, "cos", One, Nan, |a, _| f(a).cos().to_bits()),
         raw!(0x94, "sin", One, Nan, |a, _| f(a).sin().to_bits()),
         raw!(0x95, "hypot", Two, Nan, |a, b| f(a).hypot(f(b)).to_bits()),
-        helper!("atan_norm", One, Nan, |a, _| f(a).atan_norm().to_bits(), |a, _| unsafe { dampmeadow_atan_norm(a) as u64 }),
-        helper!("cast to i32", One, Exact, |a, _| f(a).0 as i32 as u32, |a, _| unsafe { probe_to_i32(a) as u32 as u64 }),
-        helper!("cast from i32", One, Exact, |a, _| (a as i32 as f32).to_bits(), |a, _| unsafe { probe_from_i32(a as i32) as u64 }),
-        helper!("cast from u32", One, Exact, |a, _| (a as f32).to_bits(), |a, _| unsafe { probe_from_u32(a) as u64 }),
-        helper!("value and back", One, Nan, |a, _| a, |a, _| unsafe { probe_value(a) as u64 }),
-        helper!("exponent bits", One, Exact, |a, _| helpers::exponent_bits(f(a)), |a, _| unsafe { probe_exponent_bits(a) as u64 }),
-        helper!("exponent value", One, Exact, |a, _| helpers::exponent_value(f(a)) as u32, |a, _| unsafe { probe_exponent_value(a) as u32 as u64 }),
-        helper!("without sign", One, Exact, |a, _| helpers::without_sign(f(a)).to_bits(), |a, _| unsafe { probe_without_sign(a) as u64 }),
-        helper!("set exponent", Two, Exact, |a, b| helpers::set_exponent(f(a), b as i32).to_bits(), |a, b| unsafe { probe_set_exponent(a, b as i32) as u64 }),
-        helper!("is integer", One, Exact, |a, _| helpers::is_integer(f(a)) as u32, |a, _| unsafe { probe_is_integer(a) as u64 }),
-        helper!("is even", One, Exact, |a, _| helpers::is_even(f(a)) as u32, |a, _| unsafe { probe_is_even(a) as u64 }),
+        own!("atan_norm", One, Nan, |a, _| f(a).atan_norm().to_bits(), |a, _| unsafe { dampmeadow_atan_norm(a) as u64 }),
     ]
 }
 
-/// The call by number where it refuses: 6 for every number that has no operation, and 7 for a second word that a known
-/// operation does not use and that is not zero. Each refusal's word is zero.
+/// The guarded form of each raw kernel: its number is 80 less, and no word is skipped. atan_norm alone has no number.
+pub fn guarded() -> Vec<Kernel> {
+    let call = |raw| match raw {
+        Call::Number(n) => Call::Number(n - 0x80),
+        Call::Own(_) => Call::Own(|a, _| unsafe { dampmeadow_atan_norm_guarded(a) }),
+    };
+    raw().into_iter().map(|k| Kernel { call: call(k.call), agree: Agree::Guarded(Gate::of(k.name)), skips: |_, _| false, ..k }).collect()
+}
+
+/// The casts and the helpers.
+fn helpers() -> Vec<Kernel> {
+    vec![
+        own!("cast to i32", One, Exact, |a, _| f(a).0 as i32 as u32, |a, _| unsafe { probe_to_i32(a) as u32 as u64 }),
+        own!("cast from i32", One, Exact, |a, _| (a as i32 as f32).to_bits(), |a, _| unsafe { probe_from_i32(a as i32) as u64 }),
+        own!("cast from u32", One, Exact, |a, _| (a as f32).to_bits(), |a, _| unsafe { probe_from_u32(a) as u64 }),
+        own!("value and back", One, Nan, |a, _| a, |a, _| unsafe { probe_value(a) as u64 }),
+        own!("exponent bits", One, Exact, |a, _| helpers::exponent_bits(f(a)), |a, _| unsafe { probe_exponent_bits(a) as u64 }),
+        own!("exponent value", One, Exact, |a, _| helpers::exponent_value(f(a)) as u32, |a, _| unsafe { probe_exponent_value(a) as u32 as u64 }),
+        own!("without sign", One, Exact, |a, _| helpers::without_sign(f(a)).to_bits(), |a, _| unsafe { probe_without_sign(a) as u64 }),
+        own!("set exponent", Two, Exact, |a, b| helpers::set_exponent(f(a), b as i32).to_bits(), |a, b| unsafe { probe_set_exponent(a, b as i32) as u64 }),
+        own!("is integer", One, Exact, |a, _| helpers::is_integer(f(a)) as u32, |a, _| unsafe { probe_is_integer(a) as u64 }),
+        own!("is even", One, Exact, |a, _| helpers::is_even(f(a)) as u32, |a, _| unsafe { probe_is_even(a) as u64 }),
+    ]
+}
+
+pub fn all() -> Vec<Kernel> {
+    guarded().into_iter().chain(raw()).chain(helpers()).collect()
+}
+
+/// The call by number where it refuses before it looks at the words' values: 6 for every number that has no operation, and 7
+/// for a second word that a known operation does not use and that is not zero. Each refusal's word is zero.
 pub fn refusals() -> Count {
     let known = all();
     let mut count = Count::default();
     let mut expect = |op: u32, a: u32, b: u32, refusal: u64| {
-        let ours = words(op, a, b);
-        count.tried += 1;
-        if ours != refusal << 32 {
-            count.differ += 1;
-            count.first.get_or_insert(Difference { a: op, b: Some(b), theirs: refusal << 32, ours });
-        }
+        count.judge(Trial { call: format!("{op:02x}"), a, b: Some(b), expected: Some(refusal << 32), ours: words(op, a, b) });
     };
     let samples = [0, 1, 0x3f80_0000, 0x7fc0_0000, 0x8000_0000, 0xffff_ffff];
-    for op in (0..0x400).chain((0..32).map(|k| 1 << k)).chain([0x186, 0x8000_0086, u32::MAX]) {
-        let kernel = known.iter().find(|k| k.number == Some(op));
+    for op in (0..0x400).chain((0..32).map(|k| 1 << k)).chain([0x106, 0x186, 0x8000_0006, 0x8000_0086, u32::MAX]) {
+        let kernel = known.iter().find(|k| matches!(k.call, Call::Number(n) if n == op));
         for a in samples {
             for b in samples {
                 match kernel {

@@ -1,5 +1,7 @@
 //! Runs micromath's kernels beside ours, word for word, and says how many words were tried and how many differ.
 
+mod edges;
+mod gates;
 mod kernels;
 mod speed;
 mod sweep;
@@ -7,6 +9,7 @@ mod words;
 
 use kernels::Kernel;
 use std::process::exit;
+use sweep::Count;
 
 struct Wanted {
     every: bool,
@@ -39,25 +42,30 @@ fn main() {
         eprintln!("compare: nothing here has the number or name {key:?}");
         exit(2);
     }
-    let chosen: Vec<&Kernel> = all.iter().filter(|k| wanted.only.is_empty() || wanted.only.contains(&k.key())).collect();
+    let wants = |kernel: &Kernel| wanted.only.is_empty() || wanted.only.contains(&kernel.key());
+    let chosen: Vec<&Kernel> = all.iter().filter(|k| wants(k)).collect();
 
     if wanted.speed {
         println!("{}", speed::heading());
         for kernel in &chosen {
-            println!("{}", speed::line(kernel));
+            let raw = all.iter().find(|k| kernel.is_guarded() && !k.is_guarded() && k.name == kernel.name);
+            println!("{}", speed::line(kernel, raw));
         }
         return;
     }
-    let mut total = sweep::Count::default();
-    for kernel in &chosen {
-        let count = sweep::sweep(kernel, wanted.every);
-        println!("{}", sweep::line(&kernel.label(), &count));
+    let mut total = Count::default();
+    let mut report = |label: &str, count: Count| {
+        println!("{}", sweep::line(label, &count));
         total.add(&count);
+    };
+    for kernel in &chosen {
+        report(&kernel.label(), sweep::sweep(kernel, wanted.every));
+    }
+    if chosen.iter().any(|k| k.is_guarded()) {
+        report("edges of the gates, by hand", edges::edges(wants));
     }
     if wanted.only.is_empty() {
-        let count = kernels::refusals();
-        println!("{}", sweep::line("refusals of the call by number", &count));
-        total.add(&count);
+        report("refusals of the call by number", kernels::refusals());
     }
     println!("{}", sweep::line("in all", &total));
     exit(if total.differ == 0 { 0 } else { 1 });

@@ -7,28 +7,40 @@ use std::sync::atomic::{AtomicU64, Ordering};
 use std::sync::Mutex;
 use std::time::{Duration, Instant};
 
-#[derive(Clone, Copy)]
-pub struct Difference {
+/// One call of ours, with what it gives and what it should.
+#[derive(Clone)]
+pub struct Trial {
+    pub call: String,
     pub a: u32,
     pub b: Option<u32>,
-    pub theirs: u64,
+    /// Nothing where the crate's word is a NaN and the call may give none.
+    pub expected: Option<u64>,
     pub ours: u64,
 }
 
-#[derive(Default, Clone, Copy)]
+#[derive(Default)]
 pub struct Count {
     pub tried: u64,
     pub skipped: u64,
     pub differ: u64,
-    pub first: Option<Difference>,
+    /// The first that differs.
+    pub first: Option<Trial>,
 }
 
 impl Count {
+    pub fn judge(&mut self, trial: Trial) {
+        self.tried += 1;
+        if trial.expected != Some(trial.ours) {
+            self.differ += 1;
+            self.first.get_or_insert(trial);
+        }
+    }
+
     pub fn add(&mut self, other: &Count) {
         self.tried += other.tried;
         self.skipped += other.skipped;
         self.differ += other.differ;
-        self.first = self.first.or(other.first);
+        self.first = self.first.take().or_else(|| other.first.clone());
     }
 }
 
@@ -37,14 +49,20 @@ pub fn line(label: &str, count: &Count) -> String {
     if count.skipped > 0 {
         line += &format!(", {} skipped", count.skipped);
     }
-    if let Some(d) = count.first {
-        let words = match d.b {
-            Some(b) => format!("{:08x} {:08x}", d.a, b),
-            None => format!("{:08x}", d.a),
-        };
-        line += &format!("; the first: {words} should be {:08x} and is {:08x}", d.theirs, d.ours);
+    if let Some(t) = &count.first {
+        let second = t.b.map_or(String::new(), |b| format!(" {b:08x}"));
+        let expected = t.expected.map_or("no NaN".to_string(), written);
+        line += &format!("; the first: {} of {:08x}{second} should be {expected} and is {}", t.call, t.a, written(t.ours));
     }
     line
+}
+
+/// An answer as document 01 writes it: a word, or the refusal's number.
+fn written(answer: u64) -> String {
+    match answer >> 32 {
+        0 => format!("{answer:08x}"),
+        refusal => format!("refusal {refusal} with {:08x}", answer as u32),
+    }
 }
 
 /// What is tried, as numbered pairs of words: number `i` below `len` is tried as `at(i)`.
@@ -74,7 +92,7 @@ impl Plan {
         match self.takes {
             Takes::One if self.every => 1 << 32,
             Takes::One => n + self.strides + self.random,
-            Takes::Two | Takes::Power => n * n + self.random,
+            Takes::Two | Takes::Power | Takes::FloatPower => n * n + self.random,
         }
     }
 
@@ -89,15 +107,19 @@ impl Plan {
                 Takes::One if i < n => (self.edges[i as usize], 0),
                 Takes::One if i < n + self.strides => ((i - n) as u32 * STRIDE, 0),
                 Takes::One => (random.word(), 0),
-                Takes::Two | Takes::Power if i < n * n => (self.edges[(i / n) as usize], self.edges[(i % n) as usize]),
+                _ if i < n * n => (self.edges[(i / n) as usize], self.edges[(i % n) as usize]),
                 Takes::Two => random.pair(),
-                Takes::Power => random.power(),
+                Takes::Power => random.power_or_end(),
+                Takes::FloatPower => random.float_power(),
             };
             if (kernel.skips)(a, b) {
                 count.skipped += 1;
-            } else if !kernel.same(a, b) {
+                continue;
+            }
+            let expected = kernel.expected(a, b);
+            if expected != Some(kernel.ours(a, b)) {
                 count.differ += 1;
-                count.first.get_or_insert_with(|| kernel.difference(a, b));
+                count.first.get_or_insert_with(|| kernel.trial(a, b, expected));
             }
         }
         count.tried = to - from - count.skipped;

@@ -1,4 +1,8 @@
-//! The words that a short run tries: every exponent with the fractions at its edges, random words, and strides.
+//! The words that a short run tries: every exponent with the fractions at its edges, random words, and strides. Words at
+//! the ends of the gates come up more often than others.
+
+use crate::gates::{ENDS, POWER_ENDS};
+use micromath::F32;
 
 /// A small generator of words (xorshift64*), so that a run can be repeated.
 pub struct Random(u64);
@@ -20,13 +24,24 @@ impl Random {
         within(self.word())
     }
 
-    /// Two words: any two, two of about the same size, or two within sixteen powers of two of 1.
+    /// A word within four of an end of some gate, of either sign, or any word.
+    fn operand(&mut self) -> u32 {
+        let (w, kind) = (self.word(), self.word());
+        if kind % 2 == 0 {
+            w
+        } else {
+            near(ENDS[kind as usize / 2 % ENDS.len()].to_bits(), self.word()) ^ (w & 0x8000_0000)
+        }
+    }
+
+    /// Two words: any two, two of about the same size, two within sixteen powers of two of 1, or two at the ends of gates.
     pub fn pair(&mut self) -> (u32, u32) {
         let (a, b) = (self.word(), self.word());
-        match self.word() % 3 {
+        match self.word() % 4 {
             0 => (a, b),
             1 => (a, (a & 0x7f80_0000).wrapping_add(b & 0x017f_ffff) ^ (b & 0x8000_0000)),
-            _ => (within(a), within(b)),
+            2 => (within(a), within(b)),
+            _ => (self.operand(), self.operand()),
         }
     }
 
@@ -39,6 +54,34 @@ impl Random {
             _ => (a, (b as i32 >> 24) as u32),
         }
     }
+
+    /// A number and a power, some of them at the ends of powi's gate.
+    pub fn power_or_end(&mut self) -> (u32, u32) {
+        let kind = self.word();
+        if kind % 4 == 0 {
+            (self.operand(), near(POWER_ENDS[kind as usize / 4 % POWER_ENDS.len()] as u32, self.word()))
+        } else {
+            self.power()
+        }
+    }
+
+    /// Any pair, or a number and a float for its power such that the power times the crate's logarithm is within a few words
+    /// of an end of exp's gate.
+    pub fn float_power(&mut self) -> (u32, u32) {
+        let (w, kind) = (self.word() & 0x7fff_ffff, self.word());
+        let a = if kind & 2 == 0 { w } else { within(w) };
+        let end = if kind & 4 == 0 { -87.0 } else { 88.0 };
+        if kind % 2 == 0 {
+            self.pair()
+        } else {
+            (a, near((end / F32::from_bits(a).ln().0).to_bits(), self.word()))
+        }
+    }
+}
+
+/// One of the nine words from four below `n` to four above it, by `k`.
+fn near(n: u32, k: u32) -> u32 {
+    n.wrapping_add(k % 9).wrapping_sub(4)
 }
 
 /// A word of the same sign and digits, within sixteen powers of two of 1.
@@ -46,8 +89,8 @@ fn within(w: u32) -> u32 {
     w & 0x87ff_ffff | if w & 0x0800_0000 == 0 { 0x3800_0000 } else { 0x4000_0000 }
 }
 
-/// Each sign and exponent field with the fractions 0, 1 and 2, those about the half, and the last two; then small whole
-/// numbers as words, and as powers in two's complement.
+/// Each sign and exponent field with the fractions 0, 1 and 2, those about the half, and the last two; small whole numbers as
+/// words, and as powers in two's complement; then the words within four of each end of a gate.
 pub fn edges() -> Vec<u32> {
     let mut words = Vec::new();
     for field in 0..=255u32 {
@@ -60,6 +103,8 @@ pub fn edges() -> Vec<u32> {
     for n in 0..=300u32 {
         words.extend([n, n.wrapping_neg(), (n as f32).to_bits(), (-(n as f32)).to_bits()]);
     }
+    let ends = ENDS.iter().flat_map(|end| [end.to_bits(), (-end).to_bits()]).chain(POWER_ENDS.map(|n| n as u32));
+    words.extend(ends.flat_map(|end| (0..9).map(move |k| near(end, k))));
     words.sort_unstable();
     words.dedup();
     words

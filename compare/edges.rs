@@ -1,0 +1,227 @@
+//! Both sides of every edge in document 01, and its worked examples of the guarded form, each with what the document says of
+//! it. The list is written by hand, apart from the gates of `gates.rs`.
+
+use crate::kernels::{guarded, Kernel};
+use crate::sweep::Count;
+
+/// What the document says of a guarded call.
+#[derive(Clone, Copy)]
+enum Says {
+    /// The crate's word.
+    Answers,
+    Gives(u32),
+    Refuses(u64),
+}
+
+use Says::{Answers, Gives, Refuses};
+
+/// Every kernel: the first operand of each is a float.
+const ALL: &str = "trunc fract floor ceil round abs copysign signum sqrt invsqrt inv recip exp ln powi powf atan atan_norm atan2 cos sin hypot";
+
+/// Kernels, their two words, and what is said of them.
+const EDGES: &[(&str, u32, u32, Says)] = &[
+    // 1: infinities and NaN, whatever else holds, and the last words before them
+    (ALL, 0x7f80_0000, 0, Refuses(1)),
+    (ALL, 0xff80_0000, 0, Refuses(1)),
+    (ALL, 0x7f80_0001, 0, Refuses(1)),
+    (ALL, 0x7fc0_0000, 0, Refuses(1)),
+    (ALL, 0xffff_ffff, 0, Refuses(1)),
+    ("abs signum sqrt invsqrt ln copysign powi powf", 0x7f7f_ffff, 0, Answers),
+    ("abs signum copysign powi", 0xff7f_ffff, 0, Answers),
+    ("copysign powf atan2 hypot", 0x3f80_0000, 0x7f80_0000, Refuses(1)),
+    ("copysign powf atan2 hypot", 0x3f80_0000, 0xff80_0000, Refuses(1)),
+    ("copysign powf atan2 hypot", 0x3f80_0000, 0x7f80_0001, Refuses(1)),
+    ("copysign powf atan2 hypot", 0x3f80_0000, 0xffc0_0000, Refuses(1)),
+    ("copysign powf", 0x3f80_0000, 0x7f7f_ffff, Answers),
+    ("copysign powf", 0x3f80_0000, 0xff7f_ffff, Answers),
+    ("powf", 0x0000_0000, 0x7f80_0000, Refuses(1)),
+    ("powf", 0xbf80_0000, 0x7fc0_0000, Refuses(1)),
+    ("atan2 hypot", 0x0000_0000, 0x7fc0_0000, Refuses(1)),
+    ("powi", 0x7f80_0000, 0x8000_0000, Refuses(1)),
+    // a power is no float
+    ("powi", 0x3f80_0000, 0x7f80_0000, Refuses(5)),
+    ("powi", 0x3f80_0000, 0x7fc0_0000, Refuses(5)),
+    ("powi", 0x3f80_0000, 0xff80_0000, Refuses(5)),
+    // 2: black, before the sign, the gate and the power
+    ("sqrt invsqrt inv recip ln powi powf", 0x0000_0000, 0, Refuses(2)),
+    ("sqrt invsqrt inv recip ln powi powf", 0x8000_0000, 0, Refuses(2)),
+    ("sqrt invsqrt inv recip ln powi powf", 0x0000_0001, 0, Refuses(2)),
+    ("sqrt invsqrt inv recip ln powi powf", 0x007f_ffff, 0, Refuses(2)),
+    ("sqrt invsqrt inv recip ln powi powf", 0x807f_ffff, 0, Refuses(2)),
+    ("sqrt invsqrt inv recip ln powi powf", 0x0080_0000, 0, Answers),
+    ("recip powi", 0x8080_0000, 0, Answers),
+    ("powf", 0x8000_0000, 0x7f7f_ffff, Refuses(2)),
+    ("powi", 0x007f_ffff, 0x0010_0001, Refuses(2)),
+    ("powi", 0x0000_0000, 0x8000_0000, Refuses(2)),
+    // elsewhere a black word has its IEEE value
+    ("trunc fract floor ceil round abs copysign signum exp atan atan_norm cos sin", 0x0000_0001, 0, Answers),
+    ("trunc fract floor ceil round abs copysign signum exp atan atan_norm cos sin", 0x807f_ffff, 0, Answers),
+    ("floor", 0x8000_0001, 0, Gives(0xbf80_0000)),
+    ("ceil", 0x0000_0001, 0, Gives(0x3f80_0000)),
+    ("abs", 0x8000_0001, 0, Gives(0x0000_0001)),
+    ("copysign", 0x0000_0001, 0x8000_0000, Gives(0x8000_0001)),
+    ("atan2 hypot", 0x0000_0001, 0x3f80_0000, Answers),
+    ("atan2 hypot", 0x3f80_0000, 0x807f_ffff, Answers),
+    ("powf", 0x3f00_0000, 0x0000_0001, Answers),
+    // 3: a sign bit, before the gate
+    ("sqrt invsqrt inv ln powf", 0x8080_0000, 0, Refuses(3)),
+    ("sqrt invsqrt inv ln powf", 0xbf80_0000, 0, Refuses(3)),
+    ("sqrt invsqrt inv ln powf", 0xff7f_ffff, 0, Refuses(3)),
+    ("inv", 0xfe80_0001, 0, Refuses(3)),
+    ("powf", 0xc000_0000, 0x7f7f_ffff, Refuses(3)),
+    ("powf", 0xc080_0000, 0x3f00_0000, Refuses(3)),
+    ("recip", 0xbf80_0000, 0, Answers),
+    ("powi", 0xbf80_0000, 3, Gives(0xbf80_0000)),
+    ("powf", 0x4000_0000, 0xbf80_0000, Answers),
+    // 4: trunc and fract, |x| under 2^32
+    ("trunc fract", 0x4f7f_ffff, 0, Answers),
+    ("trunc fract", 0x4f80_0000, 0, Refuses(4)),
+    ("trunc fract", 0xcf7f_ffff, 0, Answers),
+    ("trunc fract", 0xcf80_0000, 0, Refuses(4)),
+    // floor and ceil, |x| to 2^31
+    ("floor ceil", 0x4f00_0000, 0, Answers),
+    ("floor ceil", 0x4f00_0001, 0, Refuses(4)),
+    ("floor ceil", 0xcf00_0000, 0, Answers),
+    ("floor ceil", 0xcf00_0001, 0, Refuses(4)),
+    // round, |x| under 2^23, and not magnitude 3effffff
+    ("round", 0x4aff_ffff, 0, Answers),
+    ("round", 0x4b00_0000, 0, Refuses(4)),
+    ("round", 0x4b00_0001, 0, Refuses(4)),
+    ("round", 0xcaff_ffff, 0, Answers),
+    ("round", 0xcb00_0000, 0, Refuses(4)),
+    ("round", 0x3eff_fffe, 0, Answers),
+    ("round", 0x3eff_ffff, 0, Refuses(4)),
+    ("round", 0x3f00_0000, 0, Answers),
+    ("round", 0xbeff_fffe, 0, Answers),
+    ("round", 0xbeff_ffff, 0, Refuses(4)),
+    ("round", 0xbf00_0000, 0, Answers),
+    // inv to 2^126, recip with |x| to 2^125
+    ("inv", 0x7e80_0000, 0, Gives(0x0080_0000)),
+    ("inv", 0x7e80_0001, 0, Refuses(4)),
+    ("inv", 0x7f7f_ffff, 0, Refuses(4)),
+    ("recip", 0x7e00_0000, 0, Answers),
+    ("recip", 0x7e00_0001, 0, Refuses(4)),
+    ("recip", 0xfe00_0000, 0, Answers),
+    ("recip", 0xfe00_0001, 0, Refuses(4)),
+    // exp, -87 to 88
+    ("exp", 0xc2ae_0000, 0, Answers),
+    ("exp", 0xc2ae_0001, 0, Refuses(4)),
+    ("exp", 0x42ae_0001, 0, Answers),
+    ("exp", 0x42b0_0000, 0, Answers),
+    ("exp", 0x42b0_0001, 0, Refuses(4)),
+    ("exp", 0xc2b0_0000, 0, Refuses(4)),
+    // powf, n·ln(x) from -87 to 88: the crate's ln is 1 at 402df5db, -1 at 3ed20a25, 0 at 3f800000 and below -87 at 00800000
+    ("powf", 0x402d_f5db, 0xc2ae_0000, Answers),
+    ("powf", 0x402d_f5db, 0xc2ae_0001, Refuses(4)),
+    ("powf", 0x402d_f5db, 0x42b0_0000, Answers),
+    ("powf", 0x402d_f5db, 0x42b0_0001, Refuses(4)),
+    ("powf", 0x3ed2_0a25, 0x42ae_0000, Answers),
+    ("powf", 0x3ed2_0a25, 0x42ae_0001, Refuses(4)),
+    ("powf", 0x3ed2_0a25, 0xc2b0_0000, Answers),
+    ("powf", 0x3ed2_0a25, 0xc2b0_0001, Refuses(4)),
+    // ... and at 40400000 these exact products are past an end and the first of each two rounds back to it
+    ("powf", 0x4040_0000, 0xc29e_6252, Answers),
+    ("powf", 0x4040_0000, 0xc29e_6253, Refuses(4)),
+    ("powf", 0x4040_0000, 0x42a0_345f, Answers),
+    ("powf", 0x4040_0000, 0x42a0_3460, Refuses(4)),
+    ("powf", 0x3f80_0000, 0x7f7f_ffff, Gives(0x3f80_0000)),
+    ("powf", 0x0080_0000, 0x3f80_0000, Refuses(4)),
+    ("powf", 0x4000_0000, 0x7f7f_ffff, Refuses(4)),
+    // atan, |x| under 2^64
+    ("atan atan_norm", 0x5f7f_ffff, 0, Answers),
+    ("atan atan_norm", 0x5f80_0000, 0, Refuses(4)),
+    ("atan atan_norm", 0xdf7f_ffff, 0, Answers),
+    ("atan atan_norm", 0xdf80_0000, 0, Refuses(4)),
+    // atan2 and hypot, the larger magnitude from 2^-60
+    ("atan2 hypot", 0x2180_0000, 0x0000_0000, Answers),
+    ("atan2 hypot", 0x0000_0000, 0x2180_0000, Answers),
+    ("atan2 hypot", 0xa180_0000, 0x0000_0000, Answers),
+    ("atan2 hypot", 0x0000_0000, 0xa180_0000, Answers),
+    ("atan2 hypot", 0x217f_ffff, 0x2180_0000, Answers),
+    ("atan2 hypot", 0xa180_0000, 0x217f_ffff, Answers),
+    ("atan2 hypot", 0x217f_ffff, 0x0000_0000, Refuses(4)),
+    ("atan2 hypot", 0x0000_0000, 0x217f_ffff, Refuses(4)),
+    ("atan2 hypot", 0xa17f_ffff, 0x0000_0000, Refuses(4)),
+    ("atan2 hypot", 0x0000_0000, 0xa17f_ffff, Refuses(4)),
+    ("atan2 hypot", 0x217f_ffff, 0xa17f_ffff, Refuses(4)),
+    ("atan2 hypot", 0x0000_0000, 0x0000_0000, Refuses(4)),
+    ("atan2 hypot", 0x0000_0000, 0x8000_0000, Refuses(4)),
+    ("atan2 hypot", 0x8000_0000, 0x0000_0000, Refuses(4)),
+    ("atan2 hypot", 0x8000_0000, 0x8000_0000, Refuses(4)),
+    ("atan2 hypot", 0x0000_0001, 0x807f_ffff, Refuses(4)),
+    // ... to 2^60
+    ("atan2 hypot", 0x5d80_0000, 0x0000_0000, Answers),
+    ("atan2 hypot", 0x0000_0000, 0x5d80_0000, Answers),
+    ("atan2 hypot", 0xdd80_0000, 0x3f80_0000, Answers),
+    ("atan2 hypot", 0x3f80_0000, 0xdd80_0000, Answers),
+    ("atan2 hypot", 0x5d80_0000, 0xdd80_0000, Answers),
+    ("atan2 hypot", 0x5d80_0000, 0x217f_ffff, Answers),
+    ("atan2 hypot", 0x5d80_0001, 0x0000_0000, Refuses(4)),
+    ("atan2 hypot", 0x0000_0000, 0x5d80_0001, Refuses(4)),
+    ("atan2 hypot", 0xdd80_0001, 0x3f80_0000, Refuses(4)),
+    ("atan2 hypot", 0x3f80_0000, 0xdd80_0001, Refuses(4)),
+    ("atan2 hypot", 0x5d80_0001, 0x5d80_0000, Refuses(4)),
+    ("atan2 hypot", 0x5d80_0000, 0x5d80_0001, Refuses(4)),
+    // cos and sin, |x| to 1024
+    ("cos sin", 0x4480_0000, 0, Answers),
+    ("cos sin", 0x4480_0001, 0, Refuses(4)),
+    ("cos sin", 0xc480_0000, 0, Answers),
+    ("cos sin", 0xc480_0001, 0, Refuses(4)),
+    // 5: powi's power, -1,048,576 to 1,048,576
+    ("powi", 0x3f80_0000, 0x0010_0000, Answers),
+    ("powi", 0x3f80_0000, 0x0010_0001, Refuses(5)),
+    ("powi", 0x3f80_0000, 0xfff0_0000, Answers),
+    ("powi", 0x3f80_0000, 0xffef_ffff, Refuses(5)),
+    ("powi", 0xbf80_0000, 0x7fff_ffff, Refuses(5)),
+    ("powi", 0xbf80_0000, 0x8000_0000, Refuses(5)),
+    // worked examples that no gate turns away
+    ("sqrt", 0x4080_0000, 0, Gives(0x4000_0000)),
+    ("sqrt", 0x4000_0000, 0, Gives(0x3fc0_0000)),
+    ("sqrt", 0x3f80_0001, 0, Gives(0x3f80_0000)),
+    ("inv", 0x3fc0_0000, 0, Gives(0x3f40_0000)),
+    ("invsqrt", 0x3f80_0000, 0, Gives(0x3f77_5a86)),
+    ("trunc", 0xc020_0000, 0, Gives(0xc000_0000)),
+    ("fract", 0xc020_0000, 0, Gives(0xbf00_0000)),
+    ("signum", 0x8000_0000, 0, Gives(0xbf80_0000)),
+    ("floor", 0xbf00_0000, 0, Gives(0xbf80_0000)),
+    ("floor round", 0x8000_0000, 0, Gives(0x0000_0000)),
+    ("ceil", 0x0000_0000, 0, Gives(0x8000_0000)),
+    ("exp cos", 0x0000_0000, 0, Gives(0x3f80_0000)),
+    ("exp", 0x3f80_0000, 0, Gives(0x402d_f854)),
+    ("powi", 0x4040_0000, 3, Gives(0x41d8_0000)),
+    ("powi", 0x4040_0000, 128, Gives(0x7f80_0000)),
+];
+
+impl Says {
+    fn refusal(self) -> u64 {
+        match self {
+            Answers | Gives(_) => 0,
+            Refuses(refusal) => refusal,
+        }
+    }
+
+    /// What the guarded call has to give for these words, if anything will do.
+    fn expected(self, kernel: &Kernel, a: u32, b: u32) -> Option<u64> {
+        match self {
+            Answers => kernel.answer(a, b),
+            Gives(word) => Some(word as u64),
+            Refuses(refusal) => Some(refusal << 32),
+        }
+    }
+}
+
+/// Tries the list on the kernels that are wanted. This program's own gates have to be those of the list.
+pub fn edges(wanted: impl Fn(&Kernel) -> bool) -> Count {
+    let guarded = guarded();
+    let mut count = Count::default();
+    for &(names, a, b, says) in EDGES {
+        for name in names.split(' ') {
+            let kernel = guarded.iter().find(|k| k.name == name).expect("a kernel has this name");
+            assert_eq!(kernel.refusal(a, b), says.refusal(), "gates.rs at {name} of {a:08x} {b:08x}");
+            if wanted(kernel) {
+                count.judge(kernel.trial(a, b, says.expected(kernel, a, b)));
+            }
+        }
+    }
+    count
+}

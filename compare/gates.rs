@@ -1,0 +1,85 @@
+//! Document 01's refusals 1 to 5, from its words and by the values of the operands. Nothing here is taken from the library,
+//! whose own table has the gates as bit patterns.
+
+use micromath::F32;
+
+/// What the guarded form of one kernel refuses.
+#[derive(Clone, Copy)]
+pub struct Gate {
+    /// The second operand is a float too.
+    two_floats: bool,
+    /// A black first operand is refused.
+    no_black: bool,
+    /// A sign bit on the first operand is refused.
+    no_sign: bool,
+    /// Whether two finite operands are within the operation's gate.
+    within: fn(f32, f32) -> bool,
+    /// The second operand is powi's power.
+    power: bool,
+}
+
+const fn two_to(k: i32) -> f32 {
+    if k < 0 {
+        1.0 / two_to(-k)
+    } else {
+        (1u128 << k) as f32
+    }
+}
+
+fn exp_takes(x: f32) -> bool {
+    (-87.0..=88.0).contains(&x)
+}
+
+/// powi's powers reach from -`MOST_POWER` to `MOST_POWER`.
+const MOST_POWER: i32 = 1_048_576;
+
+/// The magnitudes about which a refusal begins or ends, for one kernel or another.
+pub const ENDS: [f32; 15] =
+    [0.0, f32::MIN_POSITIVE, two_to(-60), 0.5, 87.0, 88.0, 1024.0, two_to(23), two_to(31), two_to(32), two_to(60), two_to(64), two_to(125), two_to(126), f32::INFINITY];
+
+/// The powers about which refusal 5 begins or ends, and 0.
+pub const POWER_ENDS: [i32; 4] = [0, MOST_POWER, -MOST_POWER, i32::MIN];
+
+impl Gate {
+    /// The gate of the kernel with this name.
+    pub fn of(name: &str) -> Gate {
+        Gate {
+            two_floats: ["copysign", "powf", "atan2", "hypot"].contains(&name),
+            no_black: ["sqrt", "invsqrt", "inv", "recip", "ln", "powi", "powf"].contains(&name),
+            no_sign: ["sqrt", "invsqrt", "inv", "ln", "powf"].contains(&name),
+            within: match name {
+                "trunc" | "fract" => |x, _| x.abs() < two_to(32),
+                "floor" | "ceil" => |x, _| x.abs() <= two_to(31),
+                "round" => |x, _| x.abs() < two_to(23) && x.abs().to_bits() != 0x3eff_ffff,
+                "inv" => |x, _| x <= two_to(126),
+                "recip" => |x, _| x.abs() <= two_to(125),
+                "exp" => |x, _| exp_takes(x),
+                "powf" => |x, n| exp_takes(n * F32(x).ln().0),
+                "atan" | "atan_norm" => |x, _| x.abs() < two_to(64),
+                "atan2" | "hypot" => |y, x| (two_to(-60)..=two_to(60)).contains(&y.abs().max(x.abs())),
+                "cos" | "sin" => |x, _| x.abs() <= 1024.0,
+                _ => |_, _| true,
+            },
+            power: name == "powi",
+        }
+    }
+
+    /// The first of the refusals 1 to 5 that holds of these words, or 0.
+    #[inline(always)]
+    pub fn refusal(&self, a: u32, b: u32) -> u64 {
+        let (x, y) = (f32::from_bits(a), f32::from_bits(b));
+        if !x.is_finite() || self.two_floats && !y.is_finite() {
+            1
+        } else if self.no_black && x.abs() < f32::MIN_POSITIVE {
+            2
+        } else if self.no_sign && x.is_sign_negative() {
+            3
+        } else if !(self.within)(x, y) {
+            4
+        } else if self.power && !(-MOST_POWER..=MOST_POWER).contains(&(b as i32)) {
+            5
+        } else {
+            0
+        }
+    }
+}
