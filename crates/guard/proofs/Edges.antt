@@ -8,7 +8,7 @@ use lib.IntN.{pos, negsuc}
 use lib.Ieee.{Float, fin, binary32, ofBits}
 use Rattle.guard.specs.Operations.{opTrunc, opFract, opFloor, opCeil, opRound, opCopysign, opSqrt, opInvsqrt, opInv, opRecip, opExp, opLn, opPowi, opPowf, opAtan, opAtan2, opCos, opSin, opHypot}
 use Rattle.guard.specs.Gates.{low, high, gateOf, judged}
-use Rattle.guard.specs.Refusals.{refusalOf}
+use Rattle.guard.specs.Refusals.{refusalBehind, refusalOf}
 
 -- ---- the ends as numbers: 2 ^ 32, 2 ^ 31, 2 ^ 23, 2 ^ 126, 2 ^ 125, -87, 88, 2 ^ 64, 2 ^ -60, 2 ^ 60 and 1024
 
@@ -119,5 +119,5 @@ cases =
     ∷ []
 
 pub edges : map (λ c. refusalOf (c .op) (c .first) (c .second)) cases ≡ map (λ c. c .refusal) cases
-unfolding refusalOf judged
+unfolding refusalBehind judged
 edges = refl

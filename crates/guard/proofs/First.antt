@@ -4,7 +4,8 @@ use native.Mathlib.Nat.{suc-ne-zero}
 use mathlib.Core.Path.{_≡_, refl, sym, ap, _∙_}
 use mathlib.Core.Bool.{Bool, true, false, cond}
 use mathlib.Core.List.{List, [], _∷_, _++_}
-use Rattle.guard.specs.Refusals.{Refusal, refusals, holds, firstOf, refusalOf}
+use Rattle.guard.specs.Gates.{gateOf}
+use Rattle.guard.specs.Refusals.{Refusal, refusals, holds, firstOf, refusalBehind, refusalOf}
 
 -- none of a list holds
 abbrev pub NoneHolds : List Refusal → ℕ → ℕ → ℕ → Type 0
@@ -17,9 +18,9 @@ module _ (op a b : ℕ) where
   passed-over (r ∷ before) rs n = rw (n .0) (passed-over before rs (n .1))
 
   -- one that holds after none that does is the one given
-  pub first-given : (before : List Refusal) (r : Refusal) (after : List Refusal) → refusals ≡ before ++ (r ∷ after) → NoneHolds before op a b → holds r op a b ≡ true
+  pub first-given : (before : List Refusal) (r : Refusal) (after : List Refusal) → refusals (gateOf op) ≡ before ++ (r ∷ after) → NoneHolds before op a b → holds r op a b ≡ true
       → refusalOf op a b ≡ r .number
-  unfolding refusalOf
+  unfolding refusalBehind
   first-given before r after e n h = ap (λ (rs : List Refusal). firstOf rs op a b) e ∙ passed-over before (r ∷ after) n ∙ rw h
 
   -- where none holds, none is given
@@ -27,17 +28,17 @@ module _ (op a b : ℕ) where
   all-passed [] n = refl
   all-passed (r ∷ rs) n = rw (n .0) (all-passed rs (n .1))
 
-  pub none-given : NoneHolds refusals op a b → refusalOf op a b ≡ 0
-  unfolding refusalOf
-  none-given n = all-passed refusals n
+  pub none-given : NoneHolds (refusals (gateOf op)) op a b → refusalOf op a b ≡ 0
+  unfolding refusalBehind
+  none-given n = all-passed (refusals (gateOf op)) n
 
   -- and the other way round: a refusal's number is not 0
   skipped : (t : Bool) (n m : ℕ) → cond t (suc n) m ≡ 0 → (t ≡ false) × (m ≡ 0)
   skipped true n m e = absurd (suc-ne-zero n e)
   skipped false n m e = (refl, e)
 
-  pub none-holds : refusalOf op a b ≡ 0 → NoneHolds refusals op a b
-  unfolding refusalOf
+  pub none-holds : refusalOf op a b ≡ 0 → NoneHolds (refusals (gateOf op)) op a b
+  unfolding refusalBehind
   none-holds e =
       let p = skipped _ 0 _ e in
       let q = skipped _ 0 _ (p .1) in

@@ -12,6 +12,7 @@ use Rattle.raw.specs.Raw.{kernelOf, operandsOf, rawOf}
 use Rattle.guard.specs.declared.Guarded.{Guarded}
 use Rattle.guard.specs.declared.Guarded.the-variants.{Number, Parts, Refused}
 use Rattle.guard.specs.declared.Answer.{Answer}
+use Rattle.guard.specs.Gates.{gateOf}
 use Rattle.guard.specs.Refusals.{Refusal, refusals, holds, refusalOf}
 use Rattle.guard.specs.Guarded.{given, numberOf, wordOf, secondOf, Answered, valueOf, Guards, GuardsNumbered}
 use Rattle.guard.proofs.First.{NoneHolds, first-given, none-given, none-holds}
@@ -26,14 +27,14 @@ module _ (op a b : ℕ) (r : Answer) (g : Guards op a b r) where
 
   -- ---- the refusal: the first of the table that holds, and an answer where none does
 
-  pub refusal-is-first : (before : List Refusal) (f : Refusal) (after : List Refusal) → refusals ≡ before ++ (f ∷ after) → NoneHolds before op a b → holds f op a b ≡ true
+  pub refusal-is-first : (before : List Refusal) (f : Refusal) (after : List Refusal) → refusals (gateOf op) ≡ before ++ (f ∷ after) → NoneHolds before op a b → holds f op a b ≡ true
       → numberOf r ≡ f .number
   refusal-is-first before f after e n h = g .number ∙ first-given op a b before f after e n h
 
-  pub answered-where-none-holds : NoneHolds refusals op a b → Answered r
+  pub answered-where-none-holds : NoneHolds (refusals (gateOf op)) op a b → Answered r
   answered-where-none-holds n = g .number ∙ none-given op a b n
 
-  pub none-holds-where-answered : Answered r → NoneHolds refusals op a b
+  pub none-holds-where-answered : Answered r → NoneHolds (refusals (gateOf op)) op a b
   none-holds-where-answered h = none-holds op a b (answered-none g h)
 
   -- ---- a refused call's words are zero

@@ -3,6 +3,7 @@ mod Lists
 mod Gives
 pub mod First
 pub mod Open
+pub mod Order
 pub mod NoNan
 mod Guards
 pub mod Meaning

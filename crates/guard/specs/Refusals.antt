@@ -9,6 +9,7 @@ use lib.Ieee.{binary32, ones}
 use mir.Syntax.{w32}
 use mir.Val.{toZ}
 use Rattle.format.specs.Fields.{negative, exponent}
+use Rattle.guard.specs.declared.gate.Gate.{Gate}
 use Rattle.guard.specs.Operations.{among, opCopysign, opSqrt, opInvsqrt, opInv, opRecip, opLn, opPowi, opPowf, opAtan2, opHypot}
 use Rattle.guard.specs.Gates.{gateOf, passes, judged}
 
@@ -44,14 +45,14 @@ pub record Refusal : Type 0 where
   pub by : ℕ → Bool
   pub when : ℕ → ℕ → ℕ → Bool
 
--- in the order of the table; 1 stands twice, for the first operand and for a second that is a float
-abbrev pub refusals : List Refusal
-refusals =
+-- behind a gate, in the order of the table; 1 stands twice, for the first operand and for a second that is a float
+abbrev pub refusals : Gate → List Refusal
+refusals g =
     record { number = 1; by = every; when = λ op a b. isEndless a }
     ∷ record { number = 1; by = twoFloats; when = λ op a b. isEndless b }
     ∷ record { number = 2; by = refusesBlack; when = λ op a b. isBlack a }
     ∷ record { number = 3; by = refusesSign; when = λ op a b. negative binary32 a }
-    ∷ record { number = 4; by = every; when = λ op a b. not (passes (gateOf op) (judged op a b)) }
+    ∷ record { number = 4; by = every; when = λ op a b. not (passes g (judged op a b)) }
     ∷ record { number = 5; by = among (opPowi ∷ []); when = λ op a b. isPastPower b }
     ∷ []
 
@@ -63,5 +64,9 @@ abbrev pub firstOf : List Refusal → ℕ → ℕ → ℕ → ℕ
 firstOf [] op a b = 0
 firstOf (r ∷ rs) op a b = cond (holds r op a b) (r .number) (firstOf rs op a b)
 
-unfoldable pub refusalOf : ℕ → ℕ → ℕ → ℕ
-refusalOf op a b = firstOf refusals op a b
+unfoldable pub refusalBehind : Gate → ℕ → ℕ → ℕ → ℕ
+refusalBehind g op a b = firstOf (refusals g) op a b
+
+-- behind the operation's own gate
+abbrev pub refusalOf : ℕ → ℕ → ℕ → ℕ
+refusalOf op a b = refusalBehind (gateOf op) op a b

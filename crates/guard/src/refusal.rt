@@ -1,13 +1,13 @@
 // The refusals 1 to 5: when each holds, and which is the first in document 01's order.
 ghost use mathlib.Core.Path.{_≡_};
-ghost use mathlib.Core.Bool.{not, _&&_};
+ghost use mathlib.Core.Bool.{_&&_};
 ghost use mathlib.Core.List.{[], _∷_};
 ghost use lib.Ieee.{binary32};
 ghost use Rattle.format.specs.Fields.{negative};
 ghost use Rattle.guard.specs.Operations.{among, opPowi};
-ghost use Rattle.guard.specs.Gates.{gateOf, judged, passes};
-ghost use Rattle.guard.specs.Refusals.{isEndless, isBlack, isPastPower, twoFloats, refusesBlack, refusesSign, refusalOf};
+ghost use Rattle.guard.specs.Refusals.{isEndless, isBlack, isPastPower, twoFloats, refusesBlack, refusesSign, refusalBehind, refusalOf};
 use crate::gate;
+use crate::gate::Gate;
 use crate::number;
 use float::F32;
 use float::wrap;
@@ -15,6 +15,13 @@ use float::wrap;
 // The first refusal that holds, and 0 where none does.
 pub fn first(op: u32, a: F32, b: u32) -> u32
     ensures { λ r. ⌜ r ≡ refusalOf op (a .0) b ⌝ }
+{
+    behind(gate::of(op), op, a, b)
+}
+
+// The same with the gate at hand, for a caller that has many words for one operation.
+pub fn behind(gate: Gate, op: u32, a: F32, b: u32) -> u32
+    ensures { λ r. ⌜ r ≡ refusalBehind gate op (a .0) b ⌝ }
 {
     if is_endless(a) {
         return 1;
@@ -28,7 +35,7 @@ pub fn first(op: u32, a: F32, b: u32) -> u32
     if is_below_zero(op, a) {
         return 3;
     }
-    if !gate::passes(gate::of(op), gate::judged(op, a, F32(b))) {
+    if !gate::passes(gate, gate::judged(op, a, F32(b))) {
         return 4;
     }
     if is_past_power(op, b) {

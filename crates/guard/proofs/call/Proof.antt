@@ -11,7 +11,7 @@ use Rattle.raw.proofs.Numbers.{unlisted}
 use Rattle.guard.specs.declared.Guarded.the-variants.{Refused}
 use Rattle.guard.specs.Operations.{opPowi}
 use Rattle.guard.specs.Gates.{judged}
-use Rattle.guard.specs.Refusals.{refusalOf}
+use Rattle.guard.specs.Refusals.{refusalBehind}
 use Rattle.guard.specs.Guarded.{Guards, GuardsNumbered}
 use Rattle.guard.proofs.Gives.{refused}
 use Rattle.guard.proofs.call.Statement.{statement}
@@ -28,7 +28,7 @@ missing : (op a b : ℕ) → kernelOf op ≡ none → GuardsNumbered op a b (rec
 missing op a b e = rw e (refused 6 0 (suc-ne-zero 5))
 
 pub call-spec : {M : Type 1} → statement M
-unfolding refusalOf judged
+unfolding refusalBehind judged
 call-spec =
     tie.close
     (tie.spec
