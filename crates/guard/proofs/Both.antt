@@ -1,7 +1,6 @@
 -- trunc and fract together: the refusal that they share, or two words that are no NaN and have their meanings. Assumes nothing.
 use Prim.Native.Nat.{ℕ, zero, suc, _^_, _<_}
-use mathlib.Core.Path.{_≡_, refl, sym, ap, subst, _∙_}
-use mathlib.Core.Bool.{false}
+use mathlib.Core.Path.{_≡_, refl, sym, _∙_}
 use borrow.Author.Tests.{ne-eqb}
 use lib.Ieee.{binary32, ofBits, toBits}
 use Rattle.format.specs.Parts.{truncWord, fractWord}

@@ -5,7 +5,7 @@ use mathlib.Core.Path.{_≡_, refl}
 use mathlib.Core.Bool.{true, false}
 use mathlib.Core.List.{List, [], _∷_, map}
 use lib.IntN.{pos, negsuc}
-use lib.Ieee.{Float, fin, binary32, ofBits}
+use lib.Ieee.{fin, binary32, ofBits}
 use Rattle.guard.specs.Operations.{opTrunc, opFract, opFloor, opCeil, opRound, opCopysign, opSqrt, opInvsqrt, opInv, opRecip, opExp, opLn, opPowi, opPowf, opAtan, opAtan2, opCos, opSin, opHypot}
 use Rattle.guard.specs.Gates.{low, high, gateOf, judged}
 use Rattle.guard.specs.Refusals.{refusalBehind, refusalOf}

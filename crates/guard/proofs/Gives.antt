@@ -1,15 +1,14 @@
 -- What the answer of a guarded call is in document 01's terms: a refusal's number with the zero word, or a word that is no NaN. Assumes nothing.
 use Prim.Native.Nat.{ℕ, zero, suc, _^_, _<_}
-use native.Mathlib.Nat.{suc-ne-zero}
 use mathlib.Core.Path.{_≡_, refl, sym, ap, subst, _∙_}
 use mathlib.Core.Bool.{Bool, false, not, cond}
 use borrow.Author.Tests.{ne-eqb}
 use lib.Dec.{T, eqb}
-use lib.Ieee.{binary32, isNan, nanBits, ofBits, toBits}
+use lib.Ieee.{binary32, nanBits, ofBits, toBits}
 use lib.Ieee.Bits.{toBits-ofBits, nanBits-is}
 use Rattle.guard.specs.declared.Guarded.the-variants.{Number, Refused}
 use Rattle.guard.specs.declared.Answer.{Answer}
-use Rattle.guard.specs.Guarded.{numberOf, wordOf, Answered, Gives}
+use Rattle.guard.specs.Guarded.{wordOf, Answered, Gives}
 
 -- a word that is no NaN is its number's word
 pub kept-word : (w : ℕ) → w < 2 ^ 32 → nanBits binary32 w ≡ false → toBits binary32 (ofBits binary32 w) ≡ w

@@ -9,8 +9,7 @@ use lib.Dec.{eqb}
 use lib.Ieee.{Float, binary32, isNan, ofBits}
 use lib.Ieee.Bits.{nanBits-is}
 use Rattle.raw.specs.Raw.{kernelOf, operandsOf, rawOf}
-use Rattle.guard.specs.declared.Guarded.{Guarded}
-use Rattle.guard.specs.declared.Guarded.the-variants.{Number, Parts, Refused}
+use Rattle.guard.specs.declared.Guarded.the-variants.{Number}
 use Rattle.guard.specs.declared.Answer.{Answer}
 use Rattle.guard.specs.Gates.{gateOf}
 use Rattle.guard.specs.Refusals.{Refusal, refusals, holds, refusalOf}

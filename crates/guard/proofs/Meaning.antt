@@ -1,6 +1,5 @@
 -- An answered guarded call has its meaning or its bound, with no side condition left: the gate has seen to it. Assumes nothing.
 use Prim.Native.Nat.{ℕ, _^_, _<_}
-use mathlib.Core.Path.{_≡_}
 use lib.Ieee.{binary32}
 use Rattle.format.specs.Meaning.{IsTrunc, IsFract, IsFloor, IsCeil, IsRound}
 use Rattle.format.specs.Estimates.{Normal, SqrtBound, InvBound, InvsqrtBound, InvsqrtTight}

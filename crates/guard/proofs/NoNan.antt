@@ -18,7 +18,7 @@ use lib.Ieee.Bits.{toBits-lt}
 use lib.Ieee.Fits.{mul-fits}
 use Rattle.format.specs.Fields.{magnitude}
 use Rattle.format.specs.Meaning.{Under32, To31, Under23}
-use Rattle.format.specs.Estimates.{Normal, Invertible}
+use Rattle.format.specs.Estimates.{Invertible}
 use Rattle.format.proofs.Fields.{magnitude-lt}
 use Rattle.float.specs.Engine.{ieee}
 use Rattle.float.specs.Atan.{atanNormWord}

@@ -2,7 +2,7 @@
 // never both, exactly when document 01's table says so.
 ghost use mathlib.Core.Path.{_≡_};
 ghost use mathlib.Core.Bool.{false};
-ghost use lib.Ieee.{binary32, ofBits, nanBits};
+ghost use lib.Ieee.{binary32, nanBits};
 ghost use mir.Syntax.{w32};
 ghost use mir.Val.{ofZ};
 ghost use Rattle.format.specs.Meaning.{IsTrunc, IsFract, IsFloor, IsCeil, IsRound};

@@ -1,10 +1,10 @@
 -- A number past every arm of a `match` on 1, 2, .. k is 0 or above k, so the list of kernels has nothing there. Assumes nothing.
-use Prim.Native.Nat.{ℕ, zero, suc, _<_, _≤_}
+use Prim.Native.Nat.{ℕ, zero, suc, _<_}
 use native.Mathlib.Omega.{arith}
-use mathlib.Core.Path.{_≡_, refl, ap, _∙_}
+use mathlib.Core.Path.{_≡_, refl, ap}
 use mathlib.Core.Logic.{_⊎_, inl, inr, ⊎-elim}
-use lib.ListN.{length, getD, List·getD-eq-default}
-use Rattle.raw.specs.Raw.{Kernel, none, kernels, kernelOf}
+use lib.ListN.{getD, List·getD-eq-default}
+use Rattle.raw.specs.Raw.{none, kernels, kernelOf}
 
 -- what the last arm knows: n is none of the numbers before it
 abbrev pub NoneTo : ℕ → ℕ → Type 0

@@ -1,23 +1,23 @@
 -- atan_norm's and atan's answers are numbers, not NaNs, below 2 ^ 64: there the square is below the largest number by more than what is added to it,
 -- and it is divided by 1 at least. Assumes nothing.
 use Prim.Native.Nat.{ℕ, _-_, _*_, _^_, _≤_, _<_}
-use native.Mathlib.Nat.{le-trans, le-of-eq, le-of-lt, mul-one, mul-pos, mul-le-mul, mul-le-mul-right, mul-right-comm, mul-mul-mul-comm, le-of-mul-le-mul-right, zero-lt-suc}
+use native.Mathlib.Nat.{le-trans, le-of-eq, mul-one, mul-pos, mul-le-mul, mul-right-comm, mul-mul-mul-comm, le-of-mul-le-mul-right, zero-lt-suc}
 use native.Mathlib.Omega.{arith}
-use mathlib.Core.Path.{_≡_, refl, sym, subst}
-use mathlib.Core.Logic.{_⊎_, inl, inr}
-use mathlib.Core.Bool.{Bool, true, false, _||_, _&&_}
-use lib.Dec.{T, ltb, eqb, ltb→lt, eqb→eq, lit<, lit≤}
+use mathlib.Core.Path.{_≡_, refl, subst}
+use mathlib.Core.Bool.{false}
+use lib.Dec.{T, lit<, lit≤}
 use lib.IntN.{pos}
 use lib.Pow.{pow-pos}
 use lib.Ieee.{Float, nan, inf, fin, binary32, unlike, up, down, round, le, mul, nanBits, ofBits}
-use lib.Ieee.Fits.{and-l, mul-fits, div-fits, down-pos}
+use lib.Ieee.Exact.{HasValue}
+use lib.Ieee.Fits.{mul-fits, div-fits, down-pos}
 use lib.Ieee.Order.{round-mono}
 use Rattle.format.specs.Fields.{magnitude, negative}
-use Rattle.format.specs.Sign.{withSign}
+use Rattle.format.specs.Value.{units}
 use Rattle.float.specs.Engine.{ieee}
 use Rattle.float.specs.Atan.{firstQuadrant, atanNormWord, atanWord}
 use Rattle.sizes.proofs.Sign.{round-signed}
-use Rattle.sizes.proofs.Size.{AtMost, AtLeast, NotNegative, mul-at-most, add-at-most, div-at-most, square-not-negative}
+use Rattle.sizes.proofs.Size.{AtMost, AtLeast, NotNegative, under, mul-at-most, add-at-most, div-at-most, square-not-negative}
 use Rattle.sizes.proofs.Words.{constant, word-at-most, word-at-least, at-most-number, number-word, abs-at-most}
 use Rattle.sizes.proofs.Quotient.{abs-not-negative, by-first, sign-or-number, read-number, half-turns}
 
@@ -30,23 +30,9 @@ largest-is : round binary32 false ((2 ^ 64 - 2 ^ 40) * (2 ^ 64 - 2 ^ 40)) 1 ≡ 
 unfolding round largest
 largest-is = refl
 
-or-less : (a b : ℕ) → T (ltb a b || (eqb a b && true)) → a ≤ b
-or-less a b h = elim (or-split (ltb a b) (eqb a b && true) h) [ inl u ↦ le-of-lt (ltb→lt a b u) | inr u ↦ le-of-eq (eqb→eq a b (and-l (eqb a b) true u)) ]
-  where
-    or-split : (a b : Bool) → T (a || b) → T a ⊎ T b
-    or-split true b t = inl tt
-    or-split false b t = inr t
-
-under-largest : (x : Float) → T (le (withSign false x) largest) → AtMost binary32 0x7f7f_fffe x
-unfolding le largest
-under-largest nan h = absurd h
-under-largest (inf s) h = absurd h
-under-largest (fin s m e) h = record {
-  finite = tt;
-  small =
-      let l : m * up e * 1 ≤ 8388607 * 2 ^ 105 * down e = or-less (m * up e * 1) (8388607 * 2 ^ 105 * down e) h in
-      le-trans (mul-le-mul-right (2 ^ 149) (le-trans (le-of-eq (sym (mul-one (m * up e)))) l)) (le-of-eq (mul-right-comm (8388607 * 2 ^ 105) (down e) (2 ^ 149)));
-}
+largest-value : HasValue largest false (units binary32 0x7f7f_fffe) (2 ^ 149)
+unfolding largest
+largest-value = (refl, refl)
 
 largest-square : (x : Float) → AtMost binary32 0x5f7f_ffff x → AtMost binary32 0x7f7f_fffe (mul binary32 x x)
 unfolding mul
@@ -57,7 +43,7 @@ largest-square (fin s m e) h =
     let a = m * up e in
     let l : a ≤ v * down e = le-of-mul-le-mul-right (le-trans (h .small) (le-of-eq (mul-right-comm v (2 ^ 149) (down e)))) (pow-pos 149) in
     let k : a * a * 1 ≤ v * v * (down e * down e) = le-trans (le-of-eq (mul-one (a * a))) (le-trans (mul-le-mul l l) (le-of-eq (mul-mul-mul-comm v (down e) v (down e)))) in
-    under-largest (round binary32 (unlike s s) (a * a) (down e * down e))
+    under binary32 0x7f7f_fffe (round binary32 (unlike s s) (a * a) (down e * down e)) largest largest-value
     (rw (round-signed binary32 (unlike s s) false (a * a) (down e * down e))
     (subst (λ (y : Float). T (le (round binary32 false (a * a) (down e * down e)) y)) largest-is
     (round-mono binary32 (a * a) (down e * down e) (v * v) 1 (mul-pos (down-pos e) (down-pos e)) (zero-lt-suc 0) k)))

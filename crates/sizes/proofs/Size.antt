@@ -76,7 +76,8 @@ or-split false b t = inr t
 in-order : (a b : ℕ) → T (ltb a b || (eqb a b && true)) → a ≤ b
 in-order a b t = elim (or-split (ltb a b) (eqb a b && true) t) [ inl u ↦ le-of-lt (ltb→lt a b u) | inr u ↦ le-of-eq (eqb→eq a b (and-l (eqb a b) true u)) ]
 
-under : (f : Format) (b : ℕ) (x y : Float) → HasValue y false (units f b) (2 ^ low f) → T (le (withSign false x) y) → AtMost f b x
+-- what is no larger than the number of a word is bounded by that word
+pub under : (f : Format) (b : ℕ) (x y : Float) → HasValue y false (units f b) (2 ^ low f) → T (le (withSign false x) y) → AtMost f b x
 unfolding le
 under f b nan y v h = absurd h
 under f b (inf s) nan v h = absurd v

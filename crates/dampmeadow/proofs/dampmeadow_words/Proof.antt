@@ -6,7 +6,7 @@ use native.Mathlib.Nat.{suc-ne-zero}
 use mathlib.Core.Path.{_≡_, refl, sym, ap, _∙_}
 use mathlib.Core.Bool.{Bool, true, false, cond, _&&_, not}
 use lib.Dec.{eqb}
-use Rattle.raw.specs.Raw.{kernelOf, operandsOf, rawOf}
+use Rattle.raw.specs.Raw.{kernelOf, operandsOf}
 use Rattle.guard.specs.declared.Answer.{Answer}
 use Rattle.guard.specs.Refusals.{refusalOf}
 use Rattle.guard.specs.Guarded.{numberOf, wordOf, valueOf, GuardsNumbered}

@@ -5,7 +5,6 @@ use mathlib.Core.Path.{_≡_, ap, subst, _∙_}
 use mir.Syntax.{w32}
 use mir.Val.{ofZ, toZ}
 use mir.Facts.{toZ-ofZ}
-use Rattle.float.specs.Powi.{powiWord}
 use Rattle.guard.specs.Operations.{opPowi}
 use Rattle.guard.specs.Refusals.{refusalOf}
 use Rattle.guard.proofs.Guards.{guards}

@@ -1,6 +1,5 @@
 -- `guard::refusal::is_second_endless` meets its contract. Assumes nothing.
 use borrow.Author.Needs.{needs}
-use mathlib.Core.Path.{sym, _∙_}
 use mathlib.Core.List.{[], _∷_}
 use Rattle.guard.proofs.Lists.{listed, none-listed}
 use Rattle.guard.proofs.refusal.is_second_endless.Statement.{statement}
