@@ -34,28 +34,28 @@ unbounded = between 0x0000_0000 0x7fff_ffff
 -- in the order of the numbers, from 00, which is no operation; an end that is "under" a bound is the word below it
 abbrev pub gates : List Gate
 gates =
-    unbounded
-    ∷ between 0x0000_0000 0x4f7f_ffff
-    ∷ between 0x0000_0000 0x4f7f_ffff
-    ∷ between 0x0000_0000 0x4f00_0000
-    ∷ between 0x0000_0000 0x4f00_0000
-    ∷ row 0x0000_0000 0x4aff_ffff 0x3eff_ffff
-    ∷ unbounded
-    ∷ unbounded
-    ∷ unbounded
-    ∷ unbounded
-    ∷ unbounded
-    ∷ between 0x0000_0000 0x7e80_0000
-    ∷ between 0x0000_0000 0x7e00_0000
-    ∷ between 0xc2ae_0000 0x42b0_0000
-    ∷ unbounded
-    ∷ unbounded
-    ∷ between 0xc2ae_0000 0x42b0_0000
-    ∷ between 0x0000_0000 0x5f7f_ffff
-    ∷ between 0x2180_0000 0x5d80_0000
-    ∷ between 0x0000_0000 0x4480_0000
-    ∷ between 0x0000_0000 0x4480_0000
-    ∷ between 0x2180_0000 0x5d80_0000
+    unbounded  -- no operation
+    ∷ between 0x0000_0000 0x4f7f_ffff  -- trunc: |x| under 2 ^ 32
+    ∷ between 0x0000_0000 0x4f7f_ffff  -- fract: the same
+    ∷ between 0x0000_0000 0x4f00_0000  -- floor: |x| to 2 ^ 31
+    ∷ between 0x0000_0000 0x4f00_0000  -- ceil: the same
+    ∷ row 0x0000_0000 0x4aff_ffff 0x3eff_ffff  -- round: |x| under 2 ^ 23, and not 3effffff
+    ∷ unbounded  -- abs
+    ∷ unbounded  -- copysign
+    ∷ unbounded  -- signum
+    ∷ unbounded  -- sqrt
+    ∷ unbounded  -- invsqrt
+    ∷ between 0x0000_0000 0x7e80_0000  -- inv: to 2 ^ 126
+    ∷ between 0x0000_0000 0x7e00_0000  -- recip: |x| to 2 ^ 125
+    ∷ between 0xc2ae_0000 0x42b0_0000  -- exp: from -87 to 88
+    ∷ unbounded  -- ln
+    ∷ unbounded  -- powi
+    ∷ between 0xc2ae_0000 0x42b0_0000  -- powf: the product from -87 to 88
+    ∷ between 0x0000_0000 0x5f7f_ffff  -- atan: |x| under 2 ^ 64
+    ∷ between 0x2180_0000 0x5d80_0000  -- atan2: from 2 ^ -60 to 2 ^ 60
+    ∷ between 0x0000_0000 0x4480_0000  -- cos: |x| to 1024
+    ∷ between 0x0000_0000 0x4480_0000  -- sin: the same
+    ∷ between 0x2180_0000 0x5d80_0000  -- hypot: as atan2
     ∷ []
 
 abbrev pub gateOf : ℕ → Gate

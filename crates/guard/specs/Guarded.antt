@@ -1,4 +1,4 @@
--- What a guarded call answers, and how this paper writes an answer: a refusal's number, 0 where there is none, and words. Definitions only.
+-- What a guarded call answers, and how document 01 writes an answer: a refusal's number, 0 where there is none, and words. Definitions only.
 use Prim.Native.Nat.{ℕ, zero, suc}
 use mathlib.Core.Path.{_≡_}
 use mathlib.Core.Bool.{cond}
@@ -12,7 +12,7 @@ use Rattle.guard.specs.declared.Answer.{Answer}
 use Rattle.guard.specs.Operations.{opTrunc}
 use Rattle.guard.specs.Refusals.{refusalOf}
 
--- ---- an answer in this paper's terms
+-- ---- an answer in document 01's terms
 
 abbrev pub numberIn : Guarded → ℕ
 numberIn (Number x) = 0
@@ -50,7 +50,7 @@ abbrev pub given : ℕ → Guarded → Answer
 given zero g = record { result = g }
 given (suc n) g = record { result = Refused (suc n) }
 
--- the answer r is the refusal n, or where n is 0 the number whose word is w; and what it is in this paper's terms
+-- the answer r is the refusal n, or where n is 0 the number whose word is w; and what that is in document 01's terms
 pub record Gives (n w : ℕ) (r : Answer) : Type 0 where
   pub answer : r ≡ given n (Number (ofBits binary32 w))
   pub number : numberOf r ≡ n

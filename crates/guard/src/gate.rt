@@ -17,49 +17,28 @@ const OPEN: Gate = Gate(0x0000_0000, 0x7fff_ffff, NONE);
 // By operation number, from 00, which is no operation. An end that is "under" a bound is the word
 // below it.
 const GATES: [Gate; 22] = [
-    OPEN,
-    // trunc
-    Gate(0x0000_0000, 0x4f7f_ffff, NONE),
-    // fract
-    Gate(0x0000_0000, 0x4f7f_ffff, NONE),
-    // floor
-    Gate(0x0000_0000, 0x4f00_0000, NONE),
-    // ceil
-    Gate(0x0000_0000, 0x4f00_0000, NONE),
-    // round
-    Gate(0x0000_0000, 0x4aff_ffff, 0x3eff_ffff),
-    // abs
-    OPEN,
-    // copysign
-    OPEN,
-    // signum
-    OPEN,
-    // sqrt
-    OPEN,
-    // invsqrt
-    OPEN,
-    // inv
-    Gate(0x0000_0000, 0x7e80_0000, NONE),
-    // recip
-    Gate(0x0000_0000, 0x7e00_0000, NONE),
-    // exp
-    Gate(0xc2ae_0000, 0x42b0_0000, NONE),
-    // ln
-    OPEN,
-    // powi
-    OPEN,
-    // powf
-    Gate(0xc2ae_0000, 0x42b0_0000, NONE),
-    // atan
-    Gate(0x0000_0000, 0x5f7f_ffff, NONE),
-    // atan2
-    Gate(0x2180_0000, 0x5d80_0000, NONE),
-    // cos
-    Gate(0x0000_0000, 0x4480_0000, NONE),
-    // sin
-    Gate(0x0000_0000, 0x4480_0000, NONE),
-    // hypot
-    Gate(0x2180_0000, 0x5d80_0000, NONE),
+    OPEN, // no operation
+    Gate(0x0000_0000, 0x4f7f_ffff, NONE), // trunc: |x| under 2^32
+    Gate(0x0000_0000, 0x4f7f_ffff, NONE), // fract: the same
+    Gate(0x0000_0000, 0x4f00_0000, NONE), // floor: |x| to 2^31
+    Gate(0x0000_0000, 0x4f00_0000, NONE), // ceil: the same
+    Gate(0x0000_0000, 0x4aff_ffff, 0x3eff_ffff), // round: |x| under 2^23, and not 3effffff
+    OPEN, // abs
+    OPEN, // copysign
+    OPEN, // signum
+    OPEN, // sqrt
+    OPEN, // invsqrt
+    Gate(0x0000_0000, 0x7e80_0000, NONE), // inv: to 2^126
+    Gate(0x0000_0000, 0x7e00_0000, NONE), // recip: |x| to 2^125
+    Gate(0xc2ae_0000, 0x42b0_0000, NONE), // exp: from -87 to 88
+    OPEN, // ln
+    OPEN, // powi
+    Gate(0xc2ae_0000, 0x42b0_0000, NONE), // powf: the product from -87 to 88
+    Gate(0x0000_0000, 0x5f7f_ffff, NONE), // atan: |x| under 2^64
+    Gate(0x2180_0000, 0x5d80_0000, NONE), // atan2: from 2^-60 to 2^60
+    Gate(0x0000_0000, 0x4480_0000, NONE), // cos: |x| to 1024
+    Gate(0x0000_0000, 0x4480_0000, NONE), // sin: the same
+    Gate(0x2180_0000, 0x5d80_0000, NONE), // hypot: as atan2
 ];
 
 // The row of an operation. The whole table is copied to read it: keep it out of loops.
