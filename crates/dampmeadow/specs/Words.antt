@@ -13,23 +13,21 @@ packed n w = n * 2 ^ 32 + w
 abbrev pub answerWords : ℕ → ℕ → ℕ
 answerWords n w = packed n (cond (eqb n 0) w 0)
 
+-- a raw operation's number is its kernel's and 80
+abbrev pub kernelNumber : ℕ → ℕ
+kernelNumber op = cond (leb 0x80 op) (op - 0x80) op
+
+-- what an operation answers to two words, raw from 80 on and guarded below
+abbrev pub operationWords : ℕ → ℕ → ℕ → ℕ
+operationWords op a b = cond (leb 0x80 op) (rawOf (kernelOf (op - 0x80)) a b) (answerWords (refusalOf op a b) (valueOf op a b))
+
 -- by how many words an operation reads, 6: it is no operation; 7: the second word is not used and is not 0; else 0
 abbrev pub shapeOf : ℕ → ℕ → ℕ
 shapeOf count b = cond (eqb count 0) 6 (cond (eqb count 1 && not (eqb b 0)) 7 0)
 
--- a frame of that shape, where x is what the operation answers
+-- a frame's shape is judged first
 abbrev pub framed : ℕ → ℕ → ℕ
 framed n x = cond (eqb n 0) x (packed n 0)
 
-abbrev pub shape : ℕ → ℕ → ℕ
-shape op b = shapeOf (operandsOf (kernelOf op)) b
-
-abbrev pub guardedWords : ℕ → ℕ → ℕ → ℕ
-guardedWords op a b = framed (shape op b) (answerWords (refusalOf op a b) (valueOf op a b))
-
-abbrev pub rawWords : ℕ → ℕ → ℕ → ℕ
-rawWords op a b = framed (shape op b) (rawOf (kernelOf op) a b)
-
--- a raw operation's number is its kernel's and 80
 abbrev pub wordsOf : ℕ → ℕ → ℕ → ℕ
-wordsOf op a b = cond (leb 0x80 op) (rawWords (op - 0x80) a b) (guardedWords op a b)
+wordsOf op a b = framed (shapeOf (operandsOf (kernelOf (kernelNumber op))) b) (operationWords op a b)

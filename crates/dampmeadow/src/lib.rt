@@ -4,8 +4,8 @@ ghost use Rattle.float.specs.Engine.{ieee};
 ghost use Rattle.float.specs.Atan.{atanNormWord};
 ghost use Rattle.guard.specs.Operations.{opAtan};
 ghost use Rattle.guard.specs.Refusals.{refusalOf};
-ghost use Rattle.guard.specs.Guarded.{numberOf, wordOf};
-ghost use Rattle.dampmeadow.specs.Words.{packed, answerWords, shapeOf, wordsOf};
+ghost use Rattle.guard.specs.Guarded.{refusalGiven, wordOf};
+ghost use Rattle.dampmeadow.specs.Words.{packed, answerWords, kernelNumber, shapeOf, wordsOf};
 use float::F32;
 use guard::Answer;
 
@@ -16,17 +16,12 @@ use guard::Answer;
 pub extern "C" fn dampmeadow_words(op: u32, a: u32, b: u32) -> u64
     ensures { λ r. ⌜ r ≡ wordsOf op a b ⌝ }
 {
-    if op >= RAW {
-        let number = op - RAW;
-        let refusal = shape(raw::operands(number), b);
-        if refusal != 0 {
-            return refused(refusal);
-        }
-        return raw::answer(number, a, b) as u64;
-    }
-    let refusal = shape(raw::operands(op), b);
+    let refusal = shape_of(raw::operands(kernel_number(op)), b);
     if refusal != 0 {
         return refused(refusal);
+    }
+    if op >= RAW {
+        return raw::answer(op - RAW, a, b) as u64;
     }
     answer_words(guard::call(op, a, b))
 }
@@ -50,9 +45,18 @@ pub extern "C" fn dampmeadow_atan_norm_guarded(a: u32) -> u64
 // From here on an operation is a raw one.
 const RAW: u32 = 0x80;
 
+fn kernel_number(op: u32) -> u32
+    ensures { λ r. ⌜ r ≡ kernelNumber op ⌝ }
+{
+    if op >= RAW {
+        return op - RAW;
+    }
+    op
+}
+
 // The refusal by the number of words that an operation reads: 6 where it is no operation, 7 where
 // the second word is not used and not zero, else 0.
-fn shape(operands: u32, b: u32) -> u32
+fn shape_of(operands: u32, b: u32) -> u32
     ensures { λ r. ⌜ r ≡ shapeOf operands b ⌝ }
 {
     if operands == 0 {
@@ -71,7 +75,7 @@ fn refused(refusal: u32) -> u64
 }
 
 fn answer_words(answer: Answer) -> u64
-    ensures { λ r. ⌜ r ≡ packed (numberOf answer) (wordOf answer) ⌝ }
+    ensures { λ r. ⌜ r ≡ packed (refusalGiven answer) (wordOf answer) ⌝ }
 {
     answer.refusal() as u64 * 0x1_0000_0000 + answer.word() as u64
 }

@@ -5,7 +5,8 @@ use mathlib.Core.Path.{_≡_, refl}
 use mathlib.Core.Bool.{true, false}
 use mathlib.Core.List.{List, [], _∷_, map}
 use lib.IntN.{pos, negsuc}
-use lib.Ieee.{fin, binary32, ofBits}
+use lib.Ieee.{fin, binary32, add, sub, mul, div, lt, nanBits, ofBits, toBits, ofInt}
+use Rattle.float.specs.Ln.{polynomial, logarithm, lnWord}
 use Rattle.guard.specs.Operations.{opTrunc, opFract, opFloor, opCeil, opRound, opCopysign, opSqrt, opInvsqrt, opInv, opRecip, opExp, opLn, opPowi, opPowf, opAtan, opAtan2, opCos, opSin, opHypot}
 use Rattle.guard.specs.Gates.{low, high, gateOf, judged}
 use Rattle.guard.specs.Refusals.{refusalBehind, refusalOf}
@@ -92,6 +93,14 @@ cases =
     ∷ at opPowi 0x3f80_0000 0x7f80_0000 5
     ∷ at opPowi 0x3f80_0000 0x8000_0000 5
     ∷ at opPowi 0x007f_ffff 0x0000_0000 2
+    ∷ at opPowf 0x4000_0000 0x42fd_e464 0
+    ∷ at opPowf 0x4000_0000 0x42fd_e465 4
+    ∷ at opPowf 0x4000_0000 0xc2fb_01cb 0
+    ∷ at opPowf 0x4000_0000 0xc2fb_01cc 4
+    ∷ at opPowf 0x4000_0000 0x7f7f_ffff 4
+    ∷ at opPowf 0x4000_0000 0x7f80_0000 1
+    ∷ at opPowf 0x8000_0000 0x3f80_0000 2
+    ∷ at opPowf 0xc000_0000 0x3f80_0000 3
     ∷ at opCopysign 0x3f80_0000 0x7f80_0000 1
     ∷ at opCopysign 0x3f80_0000 0x7f7f_ffff 0
     ∷ at opAtan 0x5f7f_ffff 0x0000_0000 0
@@ -119,5 +128,5 @@ cases =
     ∷ []
 
 pub edges : map (λ c. refusalOf (c .op) (c .first) (c .second)) cases ≡ map (λ c. c .refusal) cases
-unfolding refusalBehind judged
+unfolding refusalBehind judged polynomial logarithm lnWord add sub mul div lt nanBits ofBits toBits ofInt
 edges = refl

@@ -1,8 +1,11 @@
 -- The refusal of a call is the first of the list that holds, and it is 0 exactly where none does. Assumes nothing.
-use Prim.Native.Nat.{ℕ, zero, suc}
-use native.Mathlib.Nat.{suc-ne-zero}
+use Prim.Native.Nat.{ℕ}
 use mathlib.Core.Path.{_≡_, refl, ap, _∙_}
-use mathlib.Core.Bool.{Bool, true, false, cond}
+use mathlib.Core.Bool.{Bool, true, false, cond, not, _&&_}
+use borrow.Author.Tests.{eqb-false}
+use lib.Dec.{T, eqb}
+use lib.Ieee.Bits.{is-false}
+use lib.Ieee.Fits.{and-l, and-r}
 use mathlib.Core.List.{List, [], _∷_, _++_}
 use Rattle.guard.specs.Gates.{gateOf}
 use Rattle.guard.specs.Refusals.{Refusal, refusals, holds, firstOf, refusalBehind, refusalOf}
@@ -11,6 +14,11 @@ use Rattle.guard.specs.Refusals.{Refusal, refusals, holds, firstOf, refu
 abbrev pub NoneHolds : List Refusal → ℕ → ℕ → ℕ → Type 0
 NoneHolds [] op a b = Unit {0}
 NoneHolds (r ∷ rs) op a b = (holds r op a b ≡ false) × NoneHolds rs op a b
+
+-- no number of a list is 0
+abbrev numbered : List Refusal → Bool
+numbered [] = true
+numbered (r ∷ rs) = not (eqb (r .number) 0) && numbered rs
 
 module _ (op a b : ℕ) where
   passed-over : (before rs : List Refusal) → NoneHolds before op a b → firstOf (before ++ rs) op a b ≡ firstOf rs op a b
@@ -32,18 +40,17 @@ module _ (op a b : ℕ) where
   unfolding refusalBehind
   none-given n = all-passed (refusals (gateOf op)) n
 
-  -- and the other way round: a refusal's number is not 0
-  skipped : (t : Bool) (n m : ℕ) → cond t (suc n) m ≡ 0 → (t ≡ false) × (m ≡ 0)
-  skipped true n m e = absurd (suc-ne-zero n e)
-  skipped false n m e = (refl, e)
+  -- and the other way round, since no refusal's number is 0
+  skipped : (t : Bool) (n m : ℕ) → T (not (eqb n 0)) → cond t n m ≡ 0 → (t ≡ false) × (m ≡ 0)
+  skipped true n m k e = absurd (eqb-false n 0 (is-false (eqb n 0) k) e)
+  skipped false n m k e = (refl, e)
+
+  none-of : (rs : List Refusal) → T (numbered rs) → firstOf rs op a b ≡ 0 → NoneHolds rs op a b
+  none-of [] k e = tt
+  none-of (r ∷ rs) k e =
+      let p = skipped (holds r op a b) (r .number) (firstOf rs op a b) (and-l (not (eqb (r .number) 0)) (numbered rs) k) e in
+      (p .0, none-of rs (and-r (not (eqb (r .number) 0)) (numbered rs) k) (p .1))
 
   pub none-holds : refusalOf op a b ≡ 0 → NoneHolds (refusals (gateOf op)) op a b
   unfolding refusalBehind
-  none-holds e =
-      let p = skipped _ 0 _ e in
-      let q = skipped _ 0 _ (p .1) in
-      let r = skipped _ 1 _ (q .1) in
-      let s = skipped _ 2 _ (r .1) in
-      let t = skipped _ 3 _ (s .1) in
-      let u = skipped _ 4 _ (t .1) in
-      (p .0, (q .0, (r .0, (s .0, (t .0, (u .0, tt))))))
+  none-holds e = none-of (refusals (gateOf op)) tt e

@@ -6,9 +6,10 @@ use borrow.Author.Tests.{ne-eqb}
 use lib.Dec.{T, eqb}
 use lib.Ieee.{binary32, nanBits, ofBits, toBits}
 use lib.Ieee.Bits.{toBits-ofBits, nanBits-is}
-use Rattle.guard.specs.declared.Guarded.the-variants.{Number, Refused}
+use Rattle.guard.specs.declared.Guarded.{Guarded}
+use Rattle.guard.specs.declared.Guarded.the-variants.{Number}
 use Rattle.guard.specs.declared.Answer.{Answer}
-use Rattle.guard.specs.Guarded.{wordOf, Answered, Gives}
+use Rattle.guard.specs.Guarded.{wordOf, Answered, refusedWith, given, Gives}
 
 -- a word that is no NaN is its number's word
 pub kept-word : (w : ℕ) → w < 2 ^ 32 → nanBits binary32 w ≡ false → toBits binary32 (ofBits binary32 w) ≡ w
@@ -16,17 +17,24 @@ kept-word w h n = toBits-ofBits binary32 w h (subst (λ (b : Bool). T (not b)) (
 
 -- ---- the two ways out of a guarded call
 
-pub refused : (n w : ℕ) → (n ≡ 0 → ⊥) → Gives n w (record { result = Refused n })
+pub refused : (n w : ℕ) → (n ≡ 0 → ⊥) → Gives n w (refusedWith n)
 refused zero w h = absurd (h refl)
-refused (suc n) w h = record { answer = refl; number = refl; word = rw (ne-eqb (suc n) 0 h) }
+refused (suc n) w h = record { answer = refl; refusal = refl; word = rw (ne-eqb (suc n) 0 h) }
 
 pub numbered : (n w : ℕ) → w < 2 ^ 32 → n ≡ 0 → nanBits binary32 w ≡ false → Gives n w (record { result = Number (ofBits binary32 w) })
-numbered n w h e k = rw e (record { answer = refl; number = refl; word = kept-word w h k })
+numbered n w h e k = rw e (record { answer = refl; refusal = refl; word = kept-word w h k })
 
--- ---- what a caller reads off an answer
+-- ---- an answer is given exactly where there is no refusal
+
+none-of : (n : ℕ) (g : Guarded) → Answered (given n g) → n ≡ 0
+none-of zero g h = refl
+none-of (suc n) g h = absurd h
 
 pub answered-none : {n w : ℕ} {r : Answer} → Gives n w r → Answered r → n ≡ 0
-answered-none g h = sym (g .number) ∙ h
+answered-none {n} {w} g h = none-of n (Number (ofBits binary32 w)) (subst Answered (g .answer) h)
+
+pub none-answered : {n w : ℕ} {r : Answer} → Gives n w r → n ≡ 0 → Answered r
+none-answered {n} {w} g e = subst Answered (sym (g .answer ∙ ap (λ (m : ℕ). given m (Number (ofBits binary32 w))) e)) tt
 
 pub answered-word : {n w : ℕ} {r : Answer} → Gives n w r → Answered r → wordOf r ≡ w
 answered-word {n} {w} g h = g .word ∙ ap (λ (m : ℕ). cond (eqb m 0) w 0) (answered-none g h)

@@ -1,5 +1,6 @@
 -- What belongs to no one function.
 mod Lists
+mod Each
 mod Gives
 pub mod First
 pub mod Open
@@ -9,5 +10,5 @@ mod Guards
 pub mod Meaning
 pub mod Laws
 pub mod Edges
-mod Both
+pub mod Both
 pub mod OneAnswer

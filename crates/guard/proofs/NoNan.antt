@@ -1,15 +1,13 @@
 -- No answered value is a NaN, over all operations: what an operation that is not refused knows of its operands is what its kernel's law
 -- asks for. Assumes nothing.
-use Prim.Native.Nat.{ℕ, zero, suc, _+_, _^_, _≤_, _<_}
-use native.Mathlib.Nat.{le-refl, le-of-lt, zero-add, add-zero, add-suc, suc-add}
+use Prim.Native.Nat.{ℕ, _^_, _≤_, _<_}
+use native.Mathlib.Nat.{le-refl, le-of-lt}
 use native.Mathlib.Omega.{arith}
 use mathlib.Core.Path.{_≡_, refl, sym, ap, subst, _∙_}
 use mathlib.Core.Logic.{_⊎_, inl, inr}
 use mathlib.Core.Bool.{Bool, true, false, cond, true≢false}
-use mathlib.Core.List.{List, [], _∷_}
 use borrow.Author.Tests.{leb-true, leb-false}
 use lib.Dec.{T, ltb, ltb→lt, leb}
-use lib.ListN.{getD}
 use mir.Syntax.{w32}
 use mir.Val.{ofZ, toZ}
 use mir.Facts.{ofZ-toZ}
@@ -23,7 +21,7 @@ use Rattle.format.proofs.Fields.{magnitude-lt}
 use Rattle.float.specs.Engine.{ieee}
 use Rattle.float.specs.Atan.{atanNormWord}
 use Rattle.float.specs.Powf.{productWord}
-use Rattle.raw.specs.Raw.{Kernel, none, kernels, kernelOf, rawOf}
+use Rattle.raw.specs.Raw.{Kernel, none, kernels, rawOf}
 use Rattle.sizes.proofs.Bitwise.{trunc-number, fract-number, floor-number, ceil-number, round-number, abs-number, copysign-number, signum-number, sqrt-number, invsqrt-number, inv-number}
 use Rattle.sizes.proofs.Recip.{recip-number}
 use Rattle.sizes.proofs.Exp.{exp-number}
@@ -35,9 +33,11 @@ use Rattle.sizes.proofs.Cos.{cos-number, sin-number}
 use Rattle.sizes.proofs.Hypot.{hypot-number}
 use Rattle.sizes.proofs.Powi.{powi-number}
 use Rattle.guard.specs.declared.gate.Gate.{Gate}
-use Rattle.guard.specs.Operations.{opTrunc, opFloor, opRound, opInv, opRecip, opExp, opAtan, opAtan2, opCos, opSin}
+use Rattle.guard.specs.Operations.{opTrunc, opFloor, opRound, opInv, opRecip, opExp, opAtan, opAtan2, opCos}
 use Rattle.guard.specs.Gates.{low, high, gateOf, judged, place, passes, larger}
 use Rattle.guard.specs.Refusals.{isPastPower, refusalOf}
+use Rattle.guard.specs.Guarded.{valueOf}
+use Rattle.guard.proofs.Each.{Each, done, _⨟_, of-each}
 use Rattle.guard.proofs.Open.{Open, opened, finite-of, not-black, positive, normal-of, Between, both, between}
 
 -- ---- the magnitude that an open gate has let pass
@@ -70,6 +70,13 @@ invertible a b o = record {
   above = normal-of a (o .first) (o .black) (o .sign) .above;
   below = subst (λ (x : ℕ). x ≤ 0x7e80_0000) (positive a (o .sign)) (by-magnitude (gateOf opInv) a tt tt (o .gate) .high);
 }
+
+module _ (a : ℕ) where
+  to125 : passes (gateOf opRecip) (magnitude binary32 a) ≡ true → magnitude binary32 a ≤ 0x7e00_0000
+  to125 e = let r = by-magnitude (gateOf opRecip) a tt tt e in omega arith
+
+  to1024 : passes (gateOf opCos) (magnitude binary32 a) ≡ true → magnitude binary32 a ≤ 0x4480_0000
+  to1024 e = let r = by-magnitude (gateOf opCos) a tt tt e in omega arith
 
 -- exp's gate has a sign at its low end
 within-exp : (w : ℕ) → w < 2 ^ 32 → passes (gateOf opExp) w ≡ true → (w ≤ 0x42b0_0000) ⊎ ((0x8000_0000 ≤ w) × (w ≤ 0xc2ae_0000))
@@ -113,7 +120,7 @@ record Pair (m n : ℕ) : Type 0 where
 pair : (a b : ℕ) → passes (gateOf opAtan2) (larger a b) ≡ true → Pair (magnitude binary32 a) (magnitude binary32 b)
 pair a b e =
     let l = larger-is a b in
-    let r = between (gateOf opAtan2) (larger a b) (small 0x2180_0000 tt) (small 0x5d80_0000 tt) (larger-lt a b) e in
+    let r = between (gateOf opAtan2) (larger a b) (small (low (gateOf opAtan2)) tt) (small (high (gateOf opAtan2)) tt) (larger-lt a b) e in
     record { first = omega arith; second = omega arith; either = go (l .either) (r .low) }
   where
     go : {x : ℕ} → (x ≡ magnitude binary32 a) ⊎ (x ≡ magnitude binary32 b) → 0x2180_0000 ≤ x → (0x2180_0000 ≤ magnitude binary32 a) ⊎ (0x2180_0000 ≤ magnitude binary32 b)
@@ -132,21 +139,11 @@ no-least b h n e = true≢false (sym (ap isPastPower (sym (ofZ-toZ {w = w32} (re
 abbrev IsNumber : ℕ → Kernel → Type 0
 IsNumber op k = (a b : ℕ) → a < 2 ^ 32 → b < 2 ^ 32 → Open op a b → nanBits binary32 (rawOf k a b) ≡ false
 
-infixr 5 _⨟_
-data Each : ℕ → List Kernel → Type 0 where
-  done : {op : ℕ} → Each op []
-  _⨟_ : {op : ℕ} {k : Kernel} {ks : List Kernel} → IsNumber op k → Each (suc op) ks → Each op (k ∷ ks)
-
 no-kernel : (op : ℕ) → IsNumber op none
 unfolding nanBits
 no-kernel op a b h k o = refl
 
-at : (op : ℕ) (ks : List Kernel) (i : ℕ) → Each op ks → IsNumber (op + i) (getD ks i none)
-at op [] i done = no-kernel (op + i)
-at op (k ∷ ks) zero (x ⨟ xs) = subst (λ (n : ℕ). IsNumber n k) (sym (add-zero op)) x
-at op (k ∷ ks) (suc i) (x ⨟ xs) = subst (λ (n : ℕ). IsNumber n (getD ks i none)) (suc-add op i ∙ sym (add-suc op i)) (at (suc op) ks i xs)
-
-each : Each 0 kernels
+each : Each IsNumber 0 kernels
 unfolding judged
 each =
     no-kernel 0
@@ -161,22 +158,22 @@ each =
     ⨟ (λ a b h k o. sqrt-number a (normal-of a (o .first) (o .black) (o .sign)))
     ⨟ (λ a b h k o. invsqrt-number a (normal-of a (o .first) (o .black) (o .sign)))
     ⨟ (λ a b h k o. inv-number a (invertible a b o))
-    ⨟ (λ a b h k o. recip-number a h (not-black a (o .black)) (by-magnitude (gateOf opRecip) a tt tt (o .gate) .high))
+    ⨟ (λ a b h k o. recip-number a (not-black a (o .black)) (to125 a (o .gate)))
     ⨟ (λ a b h k o. exp-number a (within-exp a h (o .gate)))
     ⨟ (λ a b h k o. ln-number a (normal-of a (o .first) (o .black) (o .sign)))
     ⨟ (λ a b h k o. powi-number a (toZ w32 b) h (not-black a (o .black)) (finite-of a (o .first)) (no-least b k (o .power)))
     ⨟ (λ a b h k o. powf-number a b (normal-of a (o .first) (o .black) (o .sign)) (within-exp (productWord a b) (product-lt a b) (o .gate)))
-    ⨟ (λ a b h k o. atan-number a h (under64 a (o .gate)))
+    ⨟ (λ a b h k o. atan-number a (under64 a (o .gate)))
     ⨟ (λ a b h k o. let p = pair a b (o .gate) in atan2-number a b h k (p .first) (p .second) (p .either))
-    ⨟ (λ a b h k o. cos-number a h (by-magnitude (gateOf opCos) a tt tt (o .gate) .high))
-    ⨟ (λ a b h k o. sin-number a h (by-magnitude (gateOf opSin) a tt tt (o .gate) .high))
-    ⨟ (λ a b h k o. let p = pair a b (o .gate) in hypot-number a b h k (p .first) (p .second))
+    ⨟ (λ a b h k o. cos-number a (to1024 a (o .gate)))
+    ⨟ (λ a b h k o. sin-number a (to1024 a (o .gate)))
+    ⨟ (λ a b h k o. let p = pair a b (o .gate) in hypot-number a b (p .first) (p .second))
     ⨟ done
 
-pub no-nan : (op a b : ℕ) → a < 2 ^ 32 → b < 2 ^ 32 → refusalOf op a b ≡ 0 → nanBits binary32 (rawOf (kernelOf op) a b) ≡ false
-no-nan op a b h k e = subst (λ (n : ℕ). IsNumber n (kernelOf op)) (zero-add op) (at 0 kernels op each) a b h k (opened op a b e)
+pub no-nan : (op a b : ℕ) → a < 2 ^ 32 → b < 2 ^ 32 → refusalOf op a b ≡ 0 → nanBits binary32 (valueOf op a b) ≡ false
+no-nan op a b h k e = of-each IsNumber no-kernel each op a b h k (opened op a b e)
 
 -- atan_norm shares atan's gate
-pub atan-norm-no-nan : (a : ℕ) → a < 2 ^ 32 → refusalOf opAtan a 0 ≡ 0 → nanBits binary32 (atanNormWord ieee a) ≡ false
+pub atan-norm-no-nan : (a : ℕ) → refusalOf opAtan a 0 ≡ 0 → nanBits binary32 (atanNormWord ieee a) ≡ false
 unfolding judged
-atan-norm-no-nan a h e = atan-norm-number a h (under64 a (opened opAtan a 0 e .gate))
+atan-norm-no-nan a e = atan-norm-number a (under64 a (opened opAtan a 0 e .gate))

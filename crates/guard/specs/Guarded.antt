@@ -14,10 +14,10 @@ use Rattle.guard.specs.Refusals.{refusalOf}
 
 -- ---- an answer in document 01's terms
 
-abbrev pub numberIn : Guarded → ℕ
-numberIn (Number x) = 0
-numberIn (Parts x y) = 0
-numberIn (Refused n) = n
+abbrev pub refusalIn : Guarded → ℕ
+refusalIn (Number x) = 0
+refusalIn (Parts x y) = 0
+refusalIn (Refused n) = n
 
 -- a refusal's value is the zero word; only two parts have a second word
 abbrev pub wordIn : Guarded → ℕ
@@ -30,8 +30,8 @@ secondIn (Number x) = 0
 secondIn (Parts x y) = toBits binary32 y
 secondIn (Refused n) = 0
 
-abbrev pub numberOf : Answer → ℕ
-numberOf r = numberIn (r .result)
+abbrev pub refusalGiven : Answer → ℕ
+refusalGiven r = refusalIn (r .result)
 
 abbrev pub wordOf : Answer → ℕ
 wordOf r = wordIn (r .result)
@@ -40,20 +40,28 @@ abbrev pub secondOf : Answer → ℕ
 secondOf r = secondIn (r .result)
 
 -- the call was not refused
+abbrev pub AnsweredIn : Guarded → Type 0
+AnsweredIn (Number x) = Unit {0}
+AnsweredIn (Parts x y) = Unit {0}
+AnsweredIn (Refused n) = ⊥
+
 abbrev pub Answered : Answer → Type 0
-Answered r = numberOf r ≡ 0
+Answered r = AnsweredIn (r .result)
 
 -- ---- what each call answers
+
+abbrev pub refusedWith : ℕ → Answer
+refusedWith n = record { result = Refused n }
 
 -- refused with n, or where n is 0 answered with g
 abbrev pub given : ℕ → Guarded → Answer
 given zero g = record { result = g }
-given (suc n) g = record { result = Refused (suc n) }
+given (suc n) g = refusedWith (suc n)
 
 -- the answer r is the refusal n, or where n is 0 the number whose word is w; and what that is in document 01's terms
 pub record Gives (n w : ℕ) (r : Answer) : Type 0 where
   pub answer : r ≡ given n (Number (ofBits binary32 w))
-  pub number : numberOf r ≡ n
+  pub refusal : refusalGiven r ≡ n
   pub word : wordOf r ≡ cond (eqb n 0) w 0
 
 -- the word that an operation answers with, where it is not refused: the raw kernel's
@@ -65,15 +73,15 @@ abbrev pub Guards : ℕ → ℕ → ℕ → Answer → Type 0
 Guards op a b = Gives (refusalOf op a b) (valueOf op a b)
 
 -- the same by number: 6 where the number has no kernel
-abbrev pub numberedRefusal : ℕ → ℕ → ℕ → ℕ
-numberedRefusal op a b = cond (eqb (operandsOf (kernelOf op)) 0) 6 (refusalOf op a b)
+abbrev pub refusalByNumber : ℕ → ℕ → ℕ → ℕ
+refusalByNumber op a b = cond (eqb (operandsOf (kernelOf op)) 0) 6 (refusalOf op a b)
 
-abbrev pub GuardsNumbered : ℕ → ℕ → ℕ → Answer → Type 0
-GuardsNumbered op a b = Gives (numberedRefusal op a b) (valueOf op a b)
+abbrev pub GuardsByNumber : ℕ → ℕ → ℕ → Answer → Type 0
+GuardsByNumber op a b = Gives (refusalByNumber op a b) (valueOf op a b)
 
 -- trunc and fract together, behind the gate that they share
 pub record GivesParts (w : ℕ) (r : Answer) : Type 0 where
   pub answer : r ≡ given (refusalOf opTrunc w 0) (Parts (ofBits binary32 (truncWord binary32 w)) (ofBits binary32 (fractWord binary32 w)))
-  pub number : numberOf r ≡ refusalOf opTrunc w 0
+  pub refusal : refusalGiven r ≡ refusalOf opTrunc w 0
   pub word : wordOf r ≡ cond (eqb (refusalOf opTrunc w 0) 0) (truncWord binary32 w) 0
   pub second : secondOf r ≡ cond (eqb (refusalOf opTrunc w 0) 0) (fractWord binary32 w) 0

@@ -45,7 +45,8 @@ pub record Refusal : Type 0 where
   pub by : ℕ → Bool
   pub when : ℕ → ℕ → ℕ → Bool
 
--- behind a gate, in the order of the table; 1 stands twice, for the first operand and for a second that is a float
+-- behind a gate, which is the operation's own, in the order of the table; 1 stands twice, for the first operand and for a second that is
+-- a float
 abbrev pub refusals : Gate → List Refusal
 refusals g =
     record { number = 1; by = every; when = λ op a b. isEndless a }

@@ -1,4 +1,4 @@
-// The gates: which words an operation takes. Every bound stands in this table and nowhere else.
+// The gates: which words an operation takes. Every gate's bounds stand in this table and nowhere else.
 ghost use mathlib.Core.Path.{_≡_};
 ghost use Rattle.guard.specs.Gates.{gateOf, place, passes, larger, judged};
 use crate::number;

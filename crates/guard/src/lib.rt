@@ -11,7 +11,7 @@ ghost use Rattle.float.specs.Engine.{ieee};
 ghost use Rattle.float.specs.Atan.{atanNormWord};
 ghost use Rattle.guard.specs.Operations.{opTrunc, opFract, opFloor, opCeil, opRound, opAbs, opCopysign, opSignum, opSqrt, opInvsqrt, opInv, opRecip, opExp, opLn, opPowi, opPowf, opAtan, opAtan2, opCos, opSin, opHypot};
 ghost use Rattle.guard.specs.Refusals.{refusalOf};
-ghost use Rattle.guard.specs.Guarded.{numberOf, wordOf, secondOf, Answered, Gives, Guards, GuardsNumbered, GivesParts};
+ghost use Rattle.guard.specs.Guarded.{refusalGiven, wordOf, secondOf, Answered, refusedWith, Gives, Guards, GuardsByNumber, GivesParts};
 use float::F32;
 use float::cast;
 
@@ -35,7 +35,7 @@ pub struct Answer {
 impl Answer {
     // The refusal's number, and 0 where the call was answered.
     pub fn refusal(self) -> u32
-        ensures { λ r. ⌜ r ≡ numberOf self ⌝ }
+        ensures { λ r. ⌜ r ≡ refusalGiven self ⌝ }
     {
         let result = self.result;
         match result {
@@ -232,9 +232,7 @@ pub fn parts(x: F32) -> Answer
 {
     let refusal = refusal::first(number::TRUNC, x, 0);
     if refusal != 0 {
-        return Answer {
-            result: Guarded::Refused(refusal),
-        };
+        return refused(refusal);
     }
     Answer {
         result: Guarded::Parts(x.trunc().value(), x.fract().value()),
@@ -245,7 +243,7 @@ pub fn parts(x: F32) -> Answer
 // operation of one operand does not look at the second word; powi's power is that word in two's
 // complement.
 pub fn call(op: u32, a: u32, b: u32) -> Answer
-    ensures { λ r. ⌜ GuardsNumbered op a b r ⌝ }
+    ensures { λ r. ⌜ GuardsByNumber op a b r ⌝ }
 {
     match op {
         number::TRUNC => trunc(F32(a)),
@@ -269,21 +267,25 @@ pub fn call(op: u32, a: u32, b: u32) -> Answer
         number::COS => cos(F32(a)),
         number::SIN => sin(F32(a)),
         number::HYPOT => hypot(F32(a), F32(b)),
-        _ => Answer {
-            result: Guarded::Refused(6),
-        },
+        _ => refused(6),
     }
 }
 
-// The answer with a word's number, or where there is a refusal with that. Where the word may be
-// answered it is no NaN, so it is the very word of the number.
+fn refused(refusal: u32) -> Answer
+    ensures { λ r. ⌜ r ≡ refusedWith refusal ⌝ }
+{
+    Answer {
+        result: Guarded::Refused(refusal),
+    }
+}
+
+// The refusal where it is not 0, else the word's number. A caller shows that a word which is
+// answered is no NaN, so that the number keeps its bits.
 fn answered(refusal: u32, word: F32) -> Answer
     ensures { λ r. ⌜ ((refusal ≡ 0 → nanBits binary32 (word .0) ≡ false) → Gives refusal (word .0) r) ⌝ }
 {
     if refusal != 0 {
-        return Answer {
-            result: Guarded::Refused(refusal),
-        };
+        return refused(refusal);
     }
     Answer {
         result: Guarded::Number(word.value()),

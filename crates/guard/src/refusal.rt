@@ -19,26 +19,27 @@ pub fn first(op: u32, a: F32, b: u32) -> u32
     behind(gate::of(op), op, a, b)
 }
 
-// The same with the gate at hand, for a caller that has many words for one operation.
+// The same where the operation's own gate has been read already, as by a caller that has many words
+// for one operation.
 pub fn behind(gate: Gate, op: u32, a: F32, b: u32) -> u32
     ensures { λ r. ⌜ r ≡ refusalBehind gate op (a .0) b ⌝ }
 {
     if is_endless(a) {
         return 1;
     }
-    if is_second_endless(op, b) {
+    if is_second_refused(op, b) {
         return 1;
     }
-    if is_black(op, a) {
+    if is_black_refused(op, a) {
         return 2;
     }
-    if is_below_zero(op, a) {
+    if is_sign_refused(op, a) {
         return 3;
     }
     if !gate::passes(gate, gate::judged(op, a, F32(b))) {
         return 4;
     }
-    if is_past_power(op, b) {
+    if is_power_refused(op, b) {
         return 5;
     }
     0
@@ -51,7 +52,7 @@ fn is_endless(x: F32) -> bool
     x.extract_exponent_bits() == 255
 }
 
-fn is_second_endless(op: u32, b: u32) -> bool
+fn is_second_refused(op: u32, b: u32) -> bool
     ensures { λ r. ⌜ r ≡ (twoFloats op && isEndless b) ⌝ }
 {
     match op {
@@ -61,7 +62,7 @@ fn is_second_endless(op: u32, b: u32) -> bool
 }
 
 // Black is an exponent field of 0, whatever the fraction is.
-fn is_black(op: u32, a: F32) -> bool
+fn is_black_refused(op: u32, a: F32) -> bool
     ensures { λ r. ⌜ r ≡ (refusesBlack op && isBlack (a .0)) ⌝ }
 {
     if refuses_black(op) {
@@ -85,7 +86,7 @@ fn refuses_black(op: u32) -> bool
     }
 }
 
-fn is_below_zero(op: u32, a: F32) -> bool
+fn is_sign_refused(op: u32, a: F32) -> bool
     ensures { λ r. ⌜ r ≡ (refusesSign op && negative binary32 (a .0)) ⌝ }
 {
     if refuses_sign(op) {
@@ -110,7 +111,7 @@ fn refuses_sign(op: u32) -> bool
 // powi takes powers up to 2^20 either way: moved up by that many, a power is from 0 to 2^21.
 const POWERS: u32 = 0x0010_0000;
 
-fn is_past_power(op: u32, n: u32) -> bool
+fn is_power_refused(op: u32, n: u32) -> bool
     ensures { λ r. ⌜ r ≡ (among (opPowi ∷ []) op && isPastPower n) ⌝ }
 {
     if op == number::POWI {

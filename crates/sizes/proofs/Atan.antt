@@ -82,8 +82,8 @@ module _ (w : ℕ) (h : magnitude binary32 w < 0x5f80_0000) where
   unfolding atanWord
   atan-is = number-word binary32 _ (mul-fits binary32 _ _) (half-turns (ofBits binary32 (atanNormWord ieee w)) (read-number (atanNormWord ieee w) atan-norm-is))
 
-pub atan-norm-number : (w : ℕ) → w < 2 ^ 32 → magnitude binary32 w < 0x5f80_0000 → nanBits binary32 (atanNormWord ieee w) ≡ false
-atan-norm-number w l h = atan-norm-is w h
+pub atan-norm-number : (w : ℕ) → magnitude binary32 w < 0x5f80_0000 → nanBits binary32 (atanNormWord ieee w) ≡ false
+atan-norm-number w h = atan-norm-is w h
 
-pub atan-number : (w : ℕ) → w < 2 ^ 32 → magnitude binary32 w < 0x5f80_0000 → nanBits binary32 (atanWord ieee w) ≡ false
-atan-number w l h = atan-is w h
+pub atan-number : (w : ℕ) → magnitude binary32 w < 0x5f80_0000 → nanBits binary32 (atanWord ieee w) ≡ false
+atan-number w h = atan-is w h

@@ -1,5 +1,5 @@
 -- cos's and sin's answers are numbers, not NaNs, up to 1024: no step of theirs leaves the range of the format. Assumes nothing.
-use Prim.Native.Nat.{ℕ, _^_, _≤_, _<_}
+use Prim.Native.Nat.{ℕ, _≤_}
 use native.Mathlib.Nat.{le-trans}
 use mathlib.Core.Path.{_≡_}
 use mathlib.Core.Bool.{false}
@@ -44,13 +44,13 @@ cos-to-2048 w h =
     let r = refined-at-most (mul-fits binary32 _ _) (parabola-at-most (sub-fits binary32 _ _) (centred-at-most (turns-at-most x))) in
     number-word binary32 _ (add-fits binary32 _ _) (at-most-number r)
 
-pub cos-number : (w : ℕ) → w < 2 ^ 32 → magnitude binary32 w ≤ 0x4480_0000 → nanBits binary32 (cosWord ieee w) ≡ false
-cos-number w l h = cos-to-2048 w (le-trans h (lit≤ tt))
+pub cos-number : (w : ℕ) → magnitude binary32 w ≤ 0x4480_0000 → nanBits binary32 (cosWord ieee w) ≡ false
+cos-number w h = cos-to-2048 w (le-trans h (lit≤ tt))
 
 -- a quarter turn back
-pub sin-number : (w : ℕ) → w < 2 ^ 32 → magnitude binary32 w ≤ 0x4480_0000 → nanBits binary32 (sinWord ieee w) ≡ false
+pub sin-number : (w : ℕ) → magnitude binary32 w ≤ 0x4480_0000 → nanBits binary32 (sinWord ieee w) ≡ false
 unfolding sinWord
-sin-number w l h =
+sin-number w h =
     let x = word-at-most binary32 w 0x4480_0000 (lit< tt) h in
     let back = sub-at-most 0x4500_0000 x (constant binary32 0x3fc9_0fdb tt) tt in
     cos-to-2048 _ (at-most-word binary32 0x4500_0000 _ (sub-fits binary32 _ _) back)

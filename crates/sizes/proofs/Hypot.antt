@@ -1,6 +1,6 @@
 -- hypot's answer is a number, not a NaN, up to 2 ^ 62: the squares and their sum are finite and not negative, and of such a word sqrt's answer is one.
 -- Assumes nothing.
-use Prim.Native.Nat.{ℕ, _*_, _^_, _≤_, _<_}
+use Prim.Native.Nat.{ℕ, _*_, _≤_, _<_}
 use native.Mathlib.Nat.{mod-eq-of-lt, div-lt-iff-lt-mul}
 use native.Mathlib.Omega.{arith}
 use mathlib.Core.Path.{_≡_, refl}
@@ -28,10 +28,10 @@ clear-word b (fin s m e) t h k =
     let g : magnitude binary32 w < ones binary32 * hid binary32 = div-lt-iff-lt-mul (hid-pos binary32) .0 (held .finite) in
     omega (arith, mod-eq-of-lt l)
 
-pub hypot-number : (w v : ℕ) → w < 2 ^ 32 → v < 2 ^ 32 → magnitude binary32 w ≤ 0x5e80_0000 → magnitude binary32 v ≤ 0x5e80_0000
+pub hypot-number : (w v : ℕ) → magnitude binary32 w ≤ 0x5e80_0000 → magnitude binary32 v ≤ 0x5e80_0000
     → nanBits binary32 (hypotWord w v) ≡ false
 unfolding hypotWord
-hypot-number w v wl vl h k =
+hypot-number w v h k =
     let x = ofBits binary32 w in
     let y = ofBits binary32 v in
     let xs : AtMost binary32 0x5e80_0000 x = word-at-most binary32 w 0x5e80_0000 (lit< tt) h in

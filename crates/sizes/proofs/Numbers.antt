@@ -56,10 +56,6 @@ pub sub-number : (f : Format) (x y : Float) → isNan x ≡ false → T (finite 
 unfolding sub
 sub-number f x y n h = add-number f x (neg y) n (neg-finite y h)
 
-pub sub-number-left : (f : Format) (x y : Float) → T (finite x) → isNan y ≡ false → isNan (sub f x y) ≡ false
-unfolding sub
-sub-number-left f x y h n = add-number-left f x (neg y) h (neg-number y n)
-
 -- ---- a product of two that are finite, and one with a factor that is finite and not 0
 
 pub mul-number : (f : Format) (x y : Float) → T (finite x) → T (finite y) → isNan (mul f x y) ≡ false

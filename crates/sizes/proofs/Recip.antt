@@ -147,6 +147,6 @@ module _ (w : ℕ) (above : 0x0080_0000 ≤ magnitude binary32 w) (below : magni
       (mul-number binary32 (number left) (correction (y ⊗ number left)) (own-at-most binary32 left left-finite .finite) (correction-at-most product-small .finite))
       (side-at-most x .finite) (side-at-least x) (lit< tt))
 
-pub recip-number : (w : ℕ) → w < 2 ^ 32 → 0x0080_0000 ≤ magnitude binary32 w → magnitude binary32 w ≤ 0x7e00_0000 → nanBits binary32 (recipWord w) ≡ false
+pub recip-number : (w : ℕ) → 0x0080_0000 ≤ magnitude binary32 w → magnitude binary32 w ≤ 0x7e00_0000 → nanBits binary32 (recipWord w) ≡ false
 unfolding recipWord
-recip-number w l above below = number-word binary32 _ (mul-fits binary32 _ (side (number w))) (answer w above below)
+recip-number w above below = number-word binary32 _ (mul-fits binary32 _ (side (number w))) (answer w above below)

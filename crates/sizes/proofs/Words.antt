@@ -171,6 +171,3 @@ abs-value f x t = abs-is f (toBits f x) .value ∙ ap (withSign false) (ofBits-t
 
 pub abs-at-most : {f : Format} {b : ℕ} {x : Float} → T (fits f x) → AtMost f b x → AtMost f b (ofBits f (absWord f (toBits f x)))
 abs-at-most {f} {b} {x} t h = rw (abs-value f x t) (signed-at-most f b false x h)
-
-pub abs-at-least : {f : Format} {b : ℕ} {x : Float} → T (fits f x) → AtLeast f b x → AtLeast f b (ofBits f (absWord f (toBits f x)))
-abs-at-least {f} {b} {x} t h = rw (abs-value f x t) (signed-at-least f b false x h)

@@ -12,4 +12,4 @@ atan-norm-spec =
     (λ c κs. search needs)
     (λ c κs. search needs)
     (λ c κs. search needs)
-    (λ c. kept _ _ _ _ _ (c .answered .ensures) (c .before .before .first .ensures) (c .before .atan-norm .ensures) (atan-norm-no-nan _ (search needs))))
+    (λ c. kept _ _ _ _ _ (c .answered .ensures) (c .before .before .first .ensures) (c .before .atan-norm .ensures) (atan-norm-no-nan _)))

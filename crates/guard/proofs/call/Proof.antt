@@ -8,11 +8,10 @@ use mir.Val.{ofZ, toZ}
 use mir.Facts.{toZ-ofZ, ofZ-toZ}
 use Rattle.raw.specs.Raw.{none, kernelOf}
 use Rattle.raw.proofs.Numbers.{unlisted}
-use Rattle.guard.specs.declared.Guarded.the-variants.{Refused}
 use Rattle.guard.specs.Operations.{opPowi}
 use Rattle.guard.specs.Gates.{judged}
 use Rattle.guard.specs.Refusals.{refusalBehind}
-use Rattle.guard.specs.Guarded.{Guards, GuardsNumbered}
+use Rattle.guard.specs.Guarded.{refusedWith, Guards, GuardsByNumber}
 use Rattle.guard.proofs.Gives.{refused}
 use Rattle.guard.proofs.call.Statement.{statement}
 use Rattle.guard.proofs.call.Tie as tie
@@ -24,7 +23,7 @@ power c =
     let z : toZ w32 (ofZ w32 (c .before .i32-of-bits .result)) ≡ toZ w32 (start .args .b) = toZ-ofZ (record { sfits = c .before .i32-of-bits .ok }) ∙ c .before .i32-of-bits .ensures in
     subst (λ (n : ℕ). Guards opPowi (start .args .a) n (c .powi .result)) (ap (ofZ w32) z ∙ ofZ-toZ (start .fits .b)) (c .powi .ensures)
 
-missing : (op a b : ℕ) → kernelOf op ≡ none → GuardsNumbered op a b (record { result = Refused 6 })
+missing : (op a b : ℕ) → kernelOf op ≡ none → GuardsByNumber op a b (refusedWith 6)
 missing op a b e = rw e (refused 6 0 (suc-ne-zero 5))
 
 pub call-spec : {M : Type 1} → statement M
@@ -32,6 +31,7 @@ unfolding refusalBehind judged
 call-spec =
     tie.close
     (tie.spec
+    (λ c κs. search needs)
     (λ c κs. search needs)
     (λ c κs. search needs)
     (λ c κs. search needs)
@@ -75,4 +75,4 @@ call-spec =
     (λ c. rw (c .before .match .keys19) (c .cos .ensures))
     (λ c. rw (c .before .match .keys20) (c .sin .ensures))
     (λ c. rw (c .before .match .keys21) (c .hypot .ensures))
-    (λ c. let args = c .before .args in missing (args .op) (args .a) (args .b) (unlisted (args .op) (c .match .rest))))
+    (λ c. let args = c .before .before .args in rw (c .refused .ensures) (missing (args .op) (args .a) (args .b) (unlisted (args .op) (c .before .match .rest)))))

@@ -10,7 +10,8 @@ parts-spec =
     tie.close
     (tie.spec
     (λ c κs. search needs)
-    (λ c. both-refused _ _ (c .before .first .ensures) (c .if1 .taken))
+    (λ c κs. search needs)
+    (λ c. rw (c .refused .ensures) (both-refused _ _ (c .before .before .first .ensures) (c .before .if1 .taken)))
     (λ c κs. search needs)
     (λ c κs. search needs)
     (λ c κs. search needs)

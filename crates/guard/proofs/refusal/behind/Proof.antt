@@ -18,13 +18,13 @@ past-1 : (c : tie.Else1) → isEndless (c .before .before .args .a .0) ≡ false
 past-1 c = sym (c .before .is-endless .ensures) ∙ c .if1 .left
 
 past-2 : (c : tie.Else2) → let s = c .before .before .before .before .args in (twoFloats (s .op) && isEndless (s .b)) ≡ false
-past-2 c = sym (c .before .is-second-endless .ensures) ∙ c .if2 .left
+past-2 c = sym (c .before .is-second-refused .ensures) ∙ c .if2 .left
 
 past-3 : (c : tie.Else3) → let s = c .before .before .before .before .before .before .args in (refusesBlack (s .op) && isBlack (s .a .0)) ≡ false
-past-3 c = sym (c .before .is-black .ensures) ∙ c .if3 .left
+past-3 c = sym (c .before .is-black-refused .ensures) ∙ c .if3 .left
 
 past-4 : (c : tie.Else4) → let s = c .before .before .before .before .before .before .before .before .args in (refusesSign (s .op) && negative binary32 (s .a .0)) ≡ false
-past-4 c = sym (c .before .is-below-zero .ensures) ∙ c .if4 .left
+past-4 c = sym (c .before .is-sign-refused .ensures) ∙ c .if4 .left
 
 -- past the sign only 4 and 5 are left
 past-sign : (c : tie.Else4) → let s = c .before .before .before .before .before .before .before .before .args in
@@ -47,23 +47,23 @@ behind-spec =
     (λ c κs. search needs)
     (λ c. rw (sym (c .before .is-endless .ensures) ∙ c .if1 .taken))
     (λ c κs. search needs)
-    (λ c. rw (past-1 (c .before .before), sym (c .before .is-second-endless .ensures) ∙ c .if2 .taken))
+    (λ c. rw (past-1 (c .before .before), sym (c .before .is-second-refused .ensures) ∙ c .if2 .taken))
     (λ c κs. search needs)
     (λ c.
     let e = c .before .before in
-    rw (past-1 (e .before .before), past-2 e, sym (c .before .is-black .ensures) ∙ c .if3 .taken))
+    rw (past-1 (e .before .before), past-2 e, sym (c .before .is-black-refused .ensures) ∙ c .if3 .taken))
     (λ c κs. search needs)
     (λ c.
     let e = c .before .before in
     let d = e .before .before in
-    rw (past-1 (d .before .before), past-2 d, past-3 e, sym (c .before .is-below-zero .ensures) ∙ c .if4 .taken))
+    rw (past-1 (d .before .before), past-2 d, past-3 e, sym (c .before .is-sign-refused .ensures) ∙ c .if4 .taken))
     (λ c κs. search needs)
     (λ c κs. search needs)
     (λ c. sym (past-sign (c .before .before .before) ∙ rw (gate-is (c .before), not-true (c .before .passes .result) (c .if5 .taken))))
     (λ c κs. search needs)
     (λ c.
     let e = c .before .before in
-    sym (past-sign (e .before .before .before) ∙ rw (gate-is (e .before), not-false (e .before .passes .result) (e .if5 .left), sym (c .before .is-past-power .ensures) ∙ c .if6 .taken)))
+    sym (past-sign (e .before .before .before) ∙ rw (gate-is (e .before), not-false (e .before .passes .result) (e .if5 .left), sym (c .before .is-power-refused .ensures) ∙ c .if6 .taken)))
     (λ c.
     let e = c .before .before in
-    sym (past-sign (e .before .before .before) ∙ rw (gate-is (e .before), not-false (e .before .passes .result) (e .if5 .left), sym (c .before .is-past-power .ensures) ∙ c .if6 .left))))
+    sym (past-sign (e .before .before .before) ∙ rw (gate-is (e .before), not-false (e .before .passes .result) (e .if5 .left), sym (c .before .is-power-refused .ensures) ∙ c .if6 .left))))

@@ -1,11 +1,11 @@
--- `guard::refusal::is_black` meets its contract. Assumes nothing.
+-- `guard::refusal::is_black_refused` meets its contract. Assumes nothing.
 use borrow.Author.Needs.{needs}
 use mathlib.Core.Path.{sym, _∙_}
-use Rattle.guard.proofs.refusal.is_black.Statement.{statement}
-use Rattle.guard.proofs.refusal.is_black.Tie as tie
+use Rattle.guard.proofs.refusal.is_black_refused.Statement.{statement}
+use Rattle.guard.proofs.refusal.is_black_refused.Tie as tie
 
-pub is-black-spec : {M : Type 1} → statement M
-is-black-spec =
+pub is-black-refused-spec : {M : Type 1} → statement M
+is-black-refused-spec =
     tie.close
     (tie.spec
     (λ c κs. search needs)

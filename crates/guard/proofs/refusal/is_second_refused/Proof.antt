@@ -1,12 +1,12 @@
--- `guard::refusal::is_second_endless` meets its contract. Assumes nothing.
+-- `guard::refusal::is_second_refused` meets its contract. Assumes nothing.
 use borrow.Author.Needs.{needs}
 use mathlib.Core.List.{[], _∷_}
 use Rattle.guard.proofs.Lists.{listed, none-listed}
-use Rattle.guard.proofs.refusal.is_second_endless.Statement.{statement}
-use Rattle.guard.proofs.refusal.is_second_endless.Tie as tie
+use Rattle.guard.proofs.refusal.is_second_refused.Statement.{statement}
+use Rattle.guard.proofs.refusal.is_second_refused.Tie as tie
 
-pub is-second-endless-spec : {M : Type 1} → statement M
-is-second-endless-spec =
+pub is-second-refused-spec : {M : Type 1} → statement M
+is-second-refused-spec =
     tie.close
     (tie.spec
     (λ c κs. search needs)

@@ -1,11 +1,11 @@
--- `guard::refusal::is_below_zero` meets its contract. Assumes nothing.
+-- `guard::refusal::is_sign_refused` meets its contract. Assumes nothing.
 use borrow.Author.Needs.{needs}
 use mathlib.Core.Path.{sym, _∙_}
-use Rattle.guard.proofs.refusal.is_below_zero.Statement.{statement}
-use Rattle.guard.proofs.refusal.is_below_zero.Tie as tie
+use Rattle.guard.proofs.refusal.is_sign_refused.Statement.{statement}
+use Rattle.guard.proofs.refusal.is_sign_refused.Tie as tie
 
-pub is-below-zero-spec : {M : Type 1} → statement M
-is-below-zero-spec =
+pub is-sign-refused-spec : {M : Type 1} → statement M
+is-sign-refused-spec =
     tie.close
     (tie.spec
     (λ c κs. search needs)
