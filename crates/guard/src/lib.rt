@@ -75,7 +75,10 @@ pub fn trunc(x: F32) -> Answer
     ensures gate { λ r. ⌜ Guards opTrunc (x .0) 0 r ⌝ }
     ensures ieee { λ r. ⌜ (Answered r → IsTrunc binary32 (x .0) (wordOf r)) ⌝ }
 {
-    answered(refusal::first(number::TRUNC, x, 0), x.trunc())
+    answered(
+        refusal::first(gate::of(number::TRUNC), number::TRUNC, x, 0),
+        x.trunc(),
+    )
 }
 
 // The fraction part, with the operand's sign bit.
@@ -83,7 +86,10 @@ pub fn fract(x: F32) -> Answer
     ensures gate { λ r. ⌜ Guards opFract (x .0) 0 r ⌝ }
     ensures ieee { λ r. ⌜ (Answered r → IsFract binary32 (x .0) (wordOf r)) ⌝ }
 {
-    answered(refusal::first(number::FRACT, x, 0), x.fract())
+    answered(
+        refusal::first(gate::of(number::FRACT), number::FRACT, x, 0),
+        x.fract(),
+    )
 }
 
 // The largest whole number not above the operand.
@@ -91,7 +97,10 @@ pub fn floor(x: F32) -> Answer
     ensures gate { λ r. ⌜ Guards opFloor (x .0) 0 r ⌝ }
     ensures ieee { λ r. ⌜ (Answered r → IsFloor binary32 (x .0) (wordOf r)) ⌝ }
 {
-    answered(refusal::first(number::FLOOR, x, 0), x.floor())
+    answered(
+        refusal::first(gate::of(number::FLOOR), number::FLOOR, x, 0),
+        x.floor(),
+    )
 }
 
 // The smallest whole number not below the operand.
@@ -99,7 +108,10 @@ pub fn ceil(x: F32) -> Answer
     ensures gate { λ r. ⌜ Guards opCeil (x .0) 0 r ⌝ }
     ensures ieee { λ r. ⌜ (Answered r → IsCeil binary32 (x .0) (wordOf r)) ⌝ }
 {
-    answered(refusal::first(number::CEIL, x, 0), x.ceil())
+    answered(
+        refusal::first(gate::of(number::CEIL), number::CEIL, x, 0),
+        x.ceil(),
+    )
 }
 
 // The nearest whole number, halves away from 0.
@@ -107,20 +119,26 @@ pub fn round(x: F32) -> Answer
     ensures gate { λ r. ⌜ Guards opRound (x .0) 0 r ⌝ }
     ensures ieee { λ r. ⌜ (Answered r → IsRound binary32 (x .0) (wordOf r)) ⌝ }
 {
-    answered(refusal::first(number::ROUND, x, 0), x.round())
+    answered(
+        refusal::first(gate::of(number::ROUND), number::ROUND, x, 0),
+        x.round(),
+    )
 }
 
 pub fn abs(x: F32) -> Answer
     ensures { λ r. ⌜ Guards opAbs (x .0) 0 r ⌝ }
 {
-    answered(refusal::first(number::ABS, x, 0), x.abs())
+    answered(
+        refusal::first(gate::of(number::ABS), number::ABS, x, 0),
+        x.abs(),
+    )
 }
 
 pub fn copysign(x: F32, sign: F32) -> Answer
     ensures { λ r. ⌜ Guards opCopysign (x .0) (sign .0) r ⌝ }
 {
     answered(
-        refusal::first(number::COPYSIGN, x, sign.0),
+        refusal::first(gate::of(number::COPYSIGN), number::COPYSIGN, x, sign.0),
         x.copysign(sign),
     )
 }
@@ -128,14 +146,20 @@ pub fn copysign(x: F32, sign: F32) -> Answer
 pub fn signum(x: F32) -> Answer
     ensures { λ r. ⌜ Guards opSignum (x .0) 0 r ⌝ }
 {
-    answered(refusal::first(number::SIGNUM, x, 0), x.signum())
+    answered(
+        refusal::first(gate::of(number::SIGNUM), number::SIGNUM, x, 0),
+        x.signum(),
+    )
 }
 
 pub fn sqrt(x: F32) -> Answer
     ensures gate { λ r. ⌜ Guards opSqrt (x .0) 0 r ⌝ }
     ensures bound { λ r. ⌜ (Answered r → SqrtBound binary32 (x .0) (wordOf r)) ⌝ }
 {
-    answered(refusal::first(number::SQRT, x, 0), x.sqrt())
+    answered(
+        refusal::first(gate::of(number::SQRT), number::SQRT, x, 0),
+        x.sqrt(),
+    )
 }
 
 pub fn invsqrt(x: F32) -> Answer
@@ -143,39 +167,59 @@ pub fn invsqrt(x: F32) -> Answer
     ensures bound { λ r. ⌜ (Answered r → InvsqrtBound (x .0) (wordOf r)) ⌝ }
     ensures tight { λ r. ⌜ (Answered r → InvsqrtTight (x .0) (wordOf r)) ⌝ }
 {
-    answered(refusal::first(number::INVSQRT, x, 0), x.invsqrt())
+    answered(
+        refusal::first(gate::of(number::INVSQRT), number::INVSQRT, x, 0),
+        x.invsqrt(),
+    )
 }
 
 pub fn inv(x: F32) -> Answer
     ensures gate { λ r. ⌜ Guards opInv (x .0) 0 r ⌝ }
     ensures bound { λ r. ⌜ (Answered r → InvBound binary32 (x .0) (wordOf r)) ⌝ }
 {
-    answered(refusal::first(number::INV, x, 0), x.inv())
+    answered(
+        refusal::first(gate::of(number::INV), number::INV, x, 0),
+        x.inv(),
+    )
 }
 
 pub fn recip(x: F32) -> Answer
     ensures { λ r. ⌜ Guards opRecip (x .0) 0 r ⌝ }
 {
-    answered(refusal::first(number::RECIP, x, 0), x.recip())
+    answered(
+        refusal::first(gate::of(number::RECIP), number::RECIP, x, 0),
+        x.recip(),
+    )
 }
 
 pub fn exp(x: F32) -> Answer
     ensures { λ r. ⌜ Guards opExp (x .0) 0 r ⌝ }
 {
-    answered(refusal::first(number::EXP, x, 0), x.exp())
+    answered(
+        refusal::first(gate::of(number::EXP), number::EXP, x, 0),
+        x.exp(),
+    )
 }
 
 pub fn ln(x: F32) -> Answer
     ensures { λ r. ⌜ Guards opLn (x .0) 0 r ⌝ }
 {
-    answered(refusal::first(number::LN, x, 0), x.ln())
+    answered(
+        refusal::first(gate::of(number::LN), number::LN, x, 0),
+        x.ln(),
+    )
 }
 
 pub fn powi(x: F32, n: i32) -> Answer
     ensures { λ r. ⌜ Guards opPowi (x .0) (ofZ w32 n) r ⌝ }
 {
     answered(
-        refusal::first(number::POWI, x, cast::bits_of_i32(n)),
+        refusal::first(
+            gate::of(number::POWI),
+            number::POWI,
+            x,
+            cast::bits_of_i32(n),
+        ),
         x.powi(n),
     )
 }
@@ -183,45 +227,66 @@ pub fn powi(x: F32, n: i32) -> Answer
 pub fn powf(x: F32, n: F32) -> Answer
     ensures { λ r. ⌜ Guards opPowf (x .0) (n .0) r ⌝ }
 {
-    answered(refusal::first(number::POWF, x, n.0), x.powf(n))
+    answered(
+        refusal::first(gate::of(number::POWF), number::POWF, x, n.0),
+        x.powf(n),
+    )
 }
 
 pub fn atan(x: F32) -> Answer
     ensures { λ r. ⌜ Guards opAtan (x .0) 0 r ⌝ }
 {
-    answered(refusal::first(number::ATAN, x, 0), x.atan())
+    answered(
+        refusal::first(gate::of(number::ATAN), number::ATAN, x, 0),
+        x.atan(),
+    )
 }
 
 // y comes first.
 pub fn atan2(y: F32, x: F32) -> Answer
     ensures { λ r. ⌜ Guards opAtan2 (y .0) (x .0) r ⌝ }
 {
-    answered(refusal::first(number::ATAN2, y, x.0), y.atan2(x))
+    answered(
+        refusal::first(gate::of(number::ATAN2), number::ATAN2, y, x.0),
+        y.atan2(x),
+    )
 }
 
 pub fn cos(x: F32) -> Answer
     ensures { λ r. ⌜ Guards opCos (x .0) 0 r ⌝ }
 {
-    answered(refusal::first(number::COS, x, 0), x.cos())
+    answered(
+        refusal::first(gate::of(number::COS), number::COS, x, 0),
+        x.cos(),
+    )
 }
 
 pub fn sin(x: F32) -> Answer
     ensures { λ r. ⌜ Guards opSin (x .0) 0 r ⌝ }
 {
-    answered(refusal::first(number::SIN, x, 0), x.sin())
+    answered(
+        refusal::first(gate::of(number::SIN), number::SIN, x, 0),
+        x.sin(),
+    )
 }
 
 pub fn hypot(x: F32, y: F32) -> Answer
     ensures { λ r. ⌜ Guards opHypot (x .0) (y .0) r ⌝ }
 {
-    answered(refusal::first(number::HYPOT, x, y.0), x.hypot(y))
+    answered(
+        refusal::first(gate::of(number::HYPOT), number::HYPOT, x, y.0),
+        x.hypot(y),
+    )
 }
 
 // As a share of a quarter turn. It has no number of its own, and atan's gate.
-pub fn atan_norm(x: F32) -> Answer
-    ensures { λ r. ⌜ Gives (refusalOf opAtan (x .0) 0) (atanNormWord ieee (x .0)) r ⌝ }
+pub fn atan_norm(slope: F32) -> Answer
+    ensures { λ r. ⌜ Gives (refusalOf opAtan (slope .0) 0) (atanNormWord ieee (slope .0)) r ⌝ }
 {
-    answered(refusal::first(number::ATAN, x, 0), x.atan_norm())
+    answered(
+        refusal::first(gate::of(number::ATAN), number::ATAN, slope, 0),
+        slope.atan_norm(),
+    )
 }
 
 // trunc and fract together.
@@ -230,7 +295,7 @@ pub fn parts(x: F32) -> Answer
     ensures whole { λ r. ⌜ (Answered r → IsTrunc binary32 (x .0) (wordOf r)) ⌝ }
     ensures rest { λ r. ⌜ (Answered r → IsFract binary32 (x .0) (secondOf r)) ⌝ }
 {
-    let refusal = refusal::first(number::TRUNC, x, 0);
+    let refusal = refusal::first(gate::of(number::TRUNC), number::TRUNC, x, 0);
     if refusal != 0 {
         return refused(refusal);
     }

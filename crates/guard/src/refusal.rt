@@ -5,23 +5,17 @@ ghost use mathlib.Core.List.{[], _∷_};
 ghost use lib.Ieee.{binary32};
 ghost use Rattle.format.specs.Fields.{negative};
 ghost use Rattle.guard.specs.Operations.{among, opPowi};
-ghost use Rattle.guard.specs.Refusals.{isEndless, isBlack, isPastPower, twoFloats, refusesBlack, refusesSign, refusalBehind, refusalOf};
+ghost use Rattle.guard.specs.Refusals.{isEndless, isBlack, isPastPower, twoFloats, refusesBlack, refusesSign, refusalBehind};
 use crate::gate;
 use crate::gate::Gate;
 use crate::number;
 use float::F32;
 use float::wrap;
 
-// The first refusal that holds, and 0 where none does.
-pub fn first(op: u32, a: F32, b: u32) -> u32
-    ensures { λ r. ⌜ r ≡ refusalOf op (a .0) b ⌝ }
-{
-    behind(gate::of(op), op, a, b)
-}
-
-// The same where the operation's own gate has been read already, as by a caller that has many words
-// for one operation.
-pub fn behind(gate: Gate, op: u32, a: F32, b: u32) -> u32
+// The first refusal that holds behind the operation's gate, and 0 where none does. The gate comes
+// from the caller: one that names its operation has the row folded in, and one that has many words
+// for an operation reads it once.
+pub fn first(gate: Gate, op: u32, a: F32, b: u32) -> u32
     ensures { λ r. ⌜ r ≡ refusalBehind gate op (a .0) b ⌝ }
 {
     if is_endless(a) {

@@ -11,8 +11,8 @@ use Rattle.guard.proofs.Guards.{guards}
 use Rattle.guard.proofs.powi.Statement.{statement}
 use Rattle.guard.proofs.powi.Tie as tie
 
-word-is : (c : tie.After-bits-of-i32) → c .bits-of-i32 .result ≡ ofZ w32 (c .before .args .n)
-word-is c = c .bits-of-i32 .ensures ∙ ap (ofZ w32) (toZ-ofZ (c .before .fits .n))
+word-is : (c : tie.After-bits-of-i32) → c .bits-of-i32 .result ≡ ofZ w32 (c .before .before .args .n)
+word-is c = c .bits-of-i32 .ensures ∙ ap (ofZ w32) (toZ-ofZ (c .before .before .fits .n))
 
 pub powi-spec : {M : Type 1} → statement M
 powi-spec =
@@ -22,8 +22,9 @@ powi-spec =
     (λ c κs. search needs)
     (λ c κs. search needs)
     (λ c κs. search needs)
+    (λ c κs. search needs)
     (λ c.
     let bits = c .before .before .before in
-    let args = bits .before .args in
-    guards opPowi (args .x .0) (ofZ w32 (args .n)) _ _ _ (search needs) (subst (λ (w : ℕ). w < 2 ^ 32) (word-is bits) (search needs)) (c .answered .ensures) (c .before .before .first .ensures ∙ ap (refusalOf opPowi (args .x .0)) (word-is bits))
+    let args = bits .before .before .args in
+    guards opPowi (args .x .0) (ofZ w32 (args .n)) _ _ _ (search needs) (subst (λ (w : ℕ). w < 2 ^ 32) (word-is bits) (search needs)) (c .answered .ensures) (c .before .before .first .ensures ∙ rw (bits .before .of .ensures, word-is bits))
     (c .before .powi .ensures)))
