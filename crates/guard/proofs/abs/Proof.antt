@@ -1,10 +1,19 @@
 -- `guard::abs` meets its contract. Assumes nothing.
 use borrow.Author.Needs.{needs}
-use mathlib.Core.Path.{_∙_}
 use Rattle.guard.specs.Operations.{opAbs}
 use Rattle.guard.proofs.Guards.{guards}
 use Rattle.guard.proofs.abs.Statement.{statement}
 use Rattle.guard.proofs.abs.Tie as tie
 
 pub abs-spec : {M : Type 1} → statement M
-abs-spec = tie.close (tie.spec (λ c κs. search needs) (λ c κs. search needs) (λ c κs. search needs) (λ c κs. search needs) (λ c. let args = c .before .before .before .before .args in guards opAbs (args .x .0) 0 _ _ _ (search needs) (search needs) (c .answered .ensures) (c .before .before .first .ensures ∙ rw (c .before .before .before .of .ensures)) (c .before .abs .ensures .0)))
+abs-spec =
+    tie.close
+    (tie.spec
+    (λ c κs. search needs)
+    (λ c κs. search needs)
+    (λ c κs. search needs)
+    (λ c κs. search needs)
+    (λ c.
+    let args = c .before .before .before .before .args in
+    guards opAbs (args .x .0) 0 _ _ _ _ (search needs) (search needs)
+    (c .before .before .before .of .ensures) (c .before .before .first .ensures) (c .before .abs .ensures .0) (c .answered .ensures)))

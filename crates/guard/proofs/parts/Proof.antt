@@ -3,12 +3,13 @@ use borrow.Author.Needs.{needs}
 use mathlib.Core.Path.{_≡_, sym, _∙_}
 use Rattle.guard.specs.Operations.{opTrunc}
 use Rattle.guard.specs.Refusals.{refusalOf}
+use Rattle.guard.proofs.Guards.{own-gate}
 use Rattle.guard.proofs.Both.{both-refused, both-answered}
 use Rattle.guard.proofs.parts.Statement.{statement}
 use Rattle.guard.proofs.parts.Tie as tie
 
 judged : (c : tie.After-first) → c .first .result ≡ refusalOf opTrunc (c .before .before .args .x .0) 0
-judged c = c .first .ensures ∙ rw (c .before .of .ensures)
+judged c = own-gate opTrunc (c .before .before .args .x .0) 0 _ _ (c .first .ensures) (c .before .of .ensures)
 
 pub parts-spec : {M : Type 1} → statement M
 parts-spec =

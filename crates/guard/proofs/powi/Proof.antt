@@ -3,10 +3,9 @@ use borrow.Author.Needs.{needs}
 use Prim.Native.Nat.{ℕ, _^_, _<_}
 use mathlib.Core.Path.{_≡_, ap, subst, _∙_}
 use mir.Syntax.{w32}
-use mir.Val.{ofZ, toZ}
+use mir.Val.{ofZ}
 use mir.Facts.{toZ-ofZ}
 use Rattle.guard.specs.Operations.{opPowi}
-use Rattle.guard.specs.Refusals.{refusalOf}
 use Rattle.guard.proofs.Guards.{guards}
 use Rattle.guard.proofs.powi.Statement.{statement}
 use Rattle.guard.proofs.powi.Tie as tie
@@ -26,5 +25,6 @@ powi-spec =
     (λ c.
     let bits = c .before .before .before in
     let args = bits .before .before .args in
-    guards opPowi (args .x .0) (ofZ w32 (args .n)) _ _ _ (search needs) (subst (λ (w : ℕ). w < 2 ^ 32) (word-is bits) (search needs)) (c .answered .ensures) (c .before .before .first .ensures ∙ rw (bits .before .of .ensures, word-is bits))
-    (c .before .powi .ensures)))
+    let power = word-is bits in
+    guards opPowi (args .x .0) (ofZ w32 (args .n)) _ _ _ _ (search needs) (subst (λ (w : ℕ). w < 2 ^ 32) power (search needs))
+    (bits .before .of .ensures) (c .before .before .first .ensures ∙ rw power) (c .before .powi .ensures) (c .answered .ensures)))

@@ -1,10 +1,19 @@
 -- `guard::recip` meets its contract. Assumes nothing.
 use borrow.Author.Needs.{needs}
-use mathlib.Core.Path.{_∙_}
 use Rattle.guard.specs.Operations.{opRecip}
 use Rattle.guard.proofs.Guards.{guards}
 use Rattle.guard.proofs.recip.Statement.{statement}
 use Rattle.guard.proofs.recip.Tie as tie
 
 pub recip-spec : {M : Type 1} → statement M
-recip-spec = tie.close (tie.spec (λ c κs. search needs) (λ c κs. search needs) (λ c κs. search needs) (λ c κs. search needs) (λ c. let args = c .before .before .before .before .args in guards opRecip (args .x .0) 0 _ _ _ (search needs) (search needs) (c .answered .ensures) (c .before .before .first .ensures ∙ rw (c .before .before .before .of .ensures)) (c .before .recip .ensures)))
+recip-spec =
+    tie.close
+    (tie.spec
+    (λ c κs. search needs)
+    (λ c κs. search needs)
+    (λ c κs. search needs)
+    (λ c κs. search needs)
+    (λ c.
+    let args = c .before .before .before .before .args in
+    guards opRecip (args .x .0) 0 _ _ _ _ (search needs) (search needs)
+    (c .before .before .before .of .ensures) (c .before .before .first .ensures) (c .before .recip .ensures) (c .answered .ensures)))

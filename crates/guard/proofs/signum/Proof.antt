@@ -1,10 +1,19 @@
 -- `guard::signum` meets its contract. Assumes nothing.
 use borrow.Author.Needs.{needs}
-use mathlib.Core.Path.{_∙_}
 use Rattle.guard.specs.Operations.{opSignum}
 use Rattle.guard.proofs.Guards.{guards}
 use Rattle.guard.proofs.signum.Statement.{statement}
 use Rattle.guard.proofs.signum.Tie as tie
 
 pub signum-spec : {M : Type 1} → statement M
-signum-spec = tie.close (tie.spec (λ c κs. search needs) (λ c κs. search needs) (λ c κs. search needs) (λ c κs. search needs) (λ c. let args = c .before .before .before .before .args in guards opSignum (args .x .0) 0 _ _ _ (search needs) (search needs) (c .answered .ensures) (c .before .before .first .ensures ∙ rw (c .before .before .before .of .ensures)) (c .before .signum .ensures)))
+signum-spec =
+    tie.close
+    (tie.spec
+    (λ c κs. search needs)
+    (λ c κs. search needs)
+    (λ c κs. search needs)
+    (λ c κs. search needs)
+    (λ c.
+    let args = c .before .before .before .before .args in
+    guards opSignum (args .x .0) 0 _ _ _ _ (search needs) (search needs)
+    (c .before .before .before .of .ensures) (c .before .before .first .ensures) (c .before .signum .ensures) (c .answered .ensures)))
