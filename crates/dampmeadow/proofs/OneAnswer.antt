@@ -1,5 +1,12 @@
 -- Any two answers that a statement of this crate allows coincide: an entry for every exported call. Assumes nothing.
+use Prim.Native.Nat.{ℕ}
+use mathlib.Core.Path.{ap, _∙_}
+use mathlib.Core.List.{List}
 use contract.Lifetimes.{Lfts}
+use denote.Ref.{now}
+use Rattle.frame.specs.Frame.{returned, left}
+use Rattle.frame.proofs.OneAnswer.{seen}
+use Rattle.dampmeadow.proofs.dampmeadow_answer.Reads as answer-reads
 use Rattle.format.proofs.Pinned.{OneAnswer, pinned}
 use Rattle.dampmeadow.proofs.dampmeadow_words.Reads as words
 use Rattle.dampmeadow.proofs.dampmeadow_atan_norm.Reads as atan-norm
@@ -13,3 +20,8 @@ dampmeadow-atan-norm κs = pinned _ (λ a r x p. p)
 
 pub dampmeadow-atan-norm-guarded : (κs : Lfts 0) → OneAnswer (atan-norm-guarded.Post κs) (λ r x. r)
 dampmeadow-atan-norm-guarded κs = pinned _ (λ a r x p. p)
+
+pub dampmeadow-answer : (κs : Lfts 2) → OneAnswer (answer-reads.Post κs) (λ r x. seen r (now (x .1 .0)))
+dampmeadow-answer κs =
+    pinned (λ a. seen (returned (now (a .0)) (now (a .1 .0))) (left (now (a .0)) (now (a .1 .0))))
+    (λ a r x p. ap (λ (n : ℕ). seen n (now (x .1 .0))) (p .0) ∙ ap (λ (l : List ℕ). seen (returned (now (a .0)) (now (a .1 .0))) l) (p .1))

@@ -1,7 +1,7 @@
--- `dampmeadow::kernel_number` meets its contract. Assumes nothing.
+-- `frame::words::kernel_number` meets its contract. Assumes nothing.
 use borrow.Author.Tests.{le-leb, lt-leb}
-use Rattle.dampmeadow.proofs.kernel_number.Statement.{statement}
-use Rattle.dampmeadow.proofs.kernel_number.Tie as tie
+use Rattle.frame.proofs.words.kernel_number.Statement.{statement}
+use Rattle.frame.proofs.words.kernel_number.Tie as tie
 
 pub kernel-number-spec : {M : Type 1} → statement M
 kernel-number-spec =

@@ -1,4 +1,4 @@
--- `dampmeadow::dampmeadow_words` meets its contract: the frame's shape comes first, then what the operation answers. Assumes nothing.
+-- `frame::words::answer` meets its contract: the frame's shape comes first, then what the operation answers. Assumes nothing.
 use borrow.Author.Needs.{needs}
 use borrow.Author.Tests.{le-leb, lt-leb, ne-eqb}
 use Prim.Native.Nat.{ℕ, _-_, _≤_, _<_}
@@ -9,9 +9,9 @@ use lib.Dec.{eqb}
 use Rattle.raw.specs.Raw.{kernelOf, operandsOf, rawOf}
 use Rattle.guard.specs.declared.Answer.{Answer}
 use Rattle.guard.specs.Guarded.{refusalGiven, wordOf, GuardsByNumber}
-use Rattle.dampmeadow.specs.Words.{packed, kernelNumber, operationWords, shapeOf, framed}
-use Rattle.dampmeadow.proofs.dampmeadow_words.Statement.{statement}
-use Rattle.dampmeadow.proofs.dampmeadow_words.Tie as tie
+use Rattle.frame.specs.Words.{packed, kernelNumber, operationWords, shapeOf, framed}
+use Rattle.frame.proofs.words.answer.Statement.{statement}
+use Rattle.frame.proofs.words.answer.Tie as tie
 
 -- ---- a frame by its shape
 
@@ -45,8 +45,8 @@ guarded op a b r h e g =
 raw : (op a b : ℕ) → 0x80 ≤ op → rawOf (kernelOf (op - 0x80)) a b ≡ operationWords op a b
 raw op a b h = rw (le-leb 0x80 op h)
 
-pub dampmeadow-words-spec : {M : Type 1} → statement M
-dampmeadow-words-spec =
+pub answer-spec : {M : Type 1} → statement M
+answer-spec =
     tie.close
     (tie.spec
     (λ c κs. search needs)
@@ -69,6 +69,6 @@ dampmeadow-words-spec =
     let shaped = tested .before .before in
     let args = shaped .before .before .before .args in
     let well = sym (shape-is shaped) ∙ tested .before .if1 .left in
-    c .answer-words .ensures
+    c .of-answer .ensures
     ∙ guarded (args .op) (args .a) (args .b) (c .before .call .result) (tested .if2 .left) well (c .before .call .ensures)
     ∙ sym (well-shaped _ _ well)))

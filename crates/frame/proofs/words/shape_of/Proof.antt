@@ -1,7 +1,7 @@
--- `dampmeadow::shape_of` meets its contract. Assumes nothing.
+-- `frame::words::shape_of` meets its contract. Assumes nothing.
 use borrow.Author.Tests.{eq-eqb, ne-eqb}
-use Rattle.dampmeadow.proofs.shape_of.Statement.{statement}
-use Rattle.dampmeadow.proofs.shape_of.Tie as tie
+use Rattle.frame.proofs.words.shape_of.Statement.{statement}
+use Rattle.frame.proofs.words.shape_of.Tie as tie
 
 pub shape-of-spec : {M : Type 1} → statement M
 shape-of-spec =

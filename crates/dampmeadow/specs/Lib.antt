@@ -1,2 +1,0 @@
--- What the exported calls answer.
-pub mod Words
