@@ -210,17 +210,25 @@ impl Says {
     }
 }
 
+/// The list with one kernel to a row.
+fn rows() -> impl Iterator<Item = (&'static str, u32, u32, Says)> {
+    EDGES.iter().flat_map(|&(names, a, b, says)| names.split(' ').map(move |name| (name, a, b, says)))
+}
+
+/// The words that the list has for the kernel of this name.
+pub fn words_of(name: &str) -> Vec<(u32, u32)> {
+    rows().filter(|row| row.0 == name).map(|(_, a, b, _)| (a, b)).collect()
+}
+
 /// Tries the list on the kernels that are wanted. This program's own gates have to be those of the list.
 pub fn edges(wanted: impl Fn(&Kernel) -> bool) -> Count {
     let guarded = guarded();
     let mut count = Count::default();
-    for &(names, a, b, says) in EDGES {
-        for name in names.split(' ') {
-            let kernel = guarded.iter().find(|k| k.name == name).expect("a kernel has this name");
-            assert_eq!(kernel.refusal(a, b), says.refusal(), "gates.rs at {name} of {a:08x} {b:08x}");
-            if wanted(kernel) {
-                count.judge(kernel.trial(a, b, says.expected(kernel, a, b)));
-            }
+    for (name, a, b, says) in rows() {
+        let kernel = guarded.iter().find(|k| k.name == name).expect("a kernel has this name");
+        assert_eq!(kernel.refusal(a, b), says.refusal(), "gates.rs at {name} of {a:08x} {b:08x}");
+        if wanted(kernel) {
+            count.judge(kernel.trial(a, b, says.expected(kernel, a, b)));
         }
     }
     count

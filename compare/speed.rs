@@ -26,19 +26,24 @@ fn run(strip: &[(u32, u32)], call: impl Fn(u32, u32) -> u64) -> f64 {
     start.elapsed().as_nanos() as f64 / (TURNS * strip.len()) as f64
 }
 
-fn median(mut times: Vec<f64>) -> f64 {
+pub fn median(mut times: Vec<f64>) -> f64 {
     times.sort_by(f64::total_cmp);
     times[times.len() / 2]
+}
+
+/// Words of size 2^-15 to 2^17; the second is 0 where it is not used.
+pub fn usual(takes: Takes, random: &mut Random) -> (u32, u32) {
+    match takes {
+        Takes::One => (random.near_one(), 0),
+        Takes::Two | Takes::FloatPower => (random.near_one(), random.near_one()),
+        Takes::Power => random.power(),
+    }
 }
 
 /// Words that the kernel is compared on and does not refuse.
 fn strip(kernel: &Kernel) -> Vec<(u32, u32)> {
     let mut random = Random::new(7);
-    let words = std::iter::repeat_with(|| match kernel.takes {
-        Takes::One => (random.near_one(), 0),
-        Takes::Two | Takes::FloatPower => (random.near_one(), random.near_one()),
-        Takes::Power => random.power(),
-    });
+    let words = std::iter::repeat_with(|| usual(kernel.takes, &mut random));
     words.filter(|&(a, b)| !(kernel.skips)(a, b) && kernel.refusal(a, b) == 0).take(WORDS).collect()
 }
 

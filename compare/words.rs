@@ -19,13 +19,22 @@ impl Random {
         (self.0.wrapping_mul(0x2545_f491_4f6c_dd1d) >> 32) as u32
     }
 
+    /// A number below `n`.
+    pub fn below(&mut self, n: usize) -> usize {
+        self.word() as usize % n
+    }
+
+    pub fn one_of<T: Copy>(&mut self, items: &[T]) -> T {
+        items[self.below(items.len())]
+    }
+
     /// A word within sixteen powers of two of 1.
     pub fn near_one(&mut self) -> u32 {
         within(self.word())
     }
 
     /// A word within four of an end of some gate, of either sign, or any word.
-    fn operand(&mut self) -> u32 {
+    pub fn operand(&mut self) -> u32 {
         let (w, kind) = (self.word(), self.word());
         if kind % 2 == 0 {
             w
@@ -74,7 +83,9 @@ impl Random {
         if kind % 2 == 0 {
             self.pair()
         } else {
-            (a, near((end / F32::from_bits(a).ln().0).to_bits(), self.word()))
+            // a NaN's bits are not the same on every machine
+            let power = end / F32::from_bits(a).ln().0;
+            (a, near(if power.is_nan() { 0x7fc0_0000 } else { power.to_bits() }, self.word()))
         }
     }
 }

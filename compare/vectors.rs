@@ -1,0 +1,144 @@
+//! The stored list of frames and their answers, to be replayed where there is no Rust. It is the same bytes whenever it is
+//! made.
+
+use crate::edges;
+use crate::kernels::Takes;
+use crate::lines::{frame, joined, Lines, BAD};
+use crate::reader::{written, Reader};
+use std::io;
+use std::path::Path;
+
+const FRAMES: usize = 20_000;
+
+/// Document 01's whole run, its worked examples of the raw form, and what it pins where runs skip the crate: each line with
+/// its answer as the document gives it.
+const EXAMPLES: &[(&str, &str)] = &[
+    // the whole run
+    ("094080000000000000", "0040000000"),
+    ("898000000000000000", "005fc00000"),
+    ("09bf80000000000000", "0300000000"),
+    ("160000000000000000", "0600000000"),
+    ("", "0700000000"),
+    // the numbers to hold it to
+    ("894080000000000000", "0040000000"),
+    ("894000000000000000", "003fc00000"),
+    ("893f80000100000000", "003f800000"),
+    ("890000000000000000", "001fc00000"),
+    ("897f80000000000000", "005f800000"),
+    ("8b3fc0000000000000", "003f400000"),
+    ("8bbf80000000000000", "00bf800000"),
+    ("8a3f80000000000000", "003f775a86"),
+    ("81c020000000000000", "00c0000000"),
+    ("82c020000000000000", "00bf000000"),
+    ("817fc0000000000000", "007f800000"),
+    ("827fc0000000000000", "003f000000"),
+    ("814f80000100000000", "004f800000"),
+    ("83bf00000000000000", "00bf800000"),
+    ("838000000000000000", "0000000000"),
+    ("838000000100000000", "00bf800000"),
+    ("840000000000000000", "0080000000"),
+    ("834f32d05e00000000", "004f000000"),
+    ("853effffff00000000", "003f800000"),
+    ("854b00000100000000", "004b000002"),
+    ("888000000000000000", "00bf800000"),
+    ("8d0000000000000000", "003f800000"),
+    ("8d3f80000000000000", "00402df854"),
+    ("8e3f7fffff00000000", "0000000000"),
+    ("8f4040000000000003", "0041d80000"),
+    ("8f4040000000000080", "007f800000"),
+    ("930000000000000000", "003f800000"),
+    ("920000000000000000", "007fc00000"),
+    // exp of any NaN
+    ("8d7fc0000000000000", "007f800000"),
+    ("8d7f80000100000000", "007f800000"),
+    ("8dffffffff00000000", "007f800000"),
+    // powf where a NaN reaches exp: a NaN and -infinity to 1 and 2, 1 and -1 to infinity, 1 to a NaN
+    ("907fc000003f800000", "00ff800000"),
+    ("907fc0000040000000", "007f800000"),
+    ("90ff8000003f800000", "00ff800000"),
+    ("90ff80000040000000", "007f800000"),
+    ("903f8000007f800000", "007f800000"),
+    ("90bf8000007f800000", "007f800000"),
+    ("903f8000007fc00000", "007f800000"),
+    // ... and where none does, since the power is not whole: a NaN to 0.3, -1 to a NaN
+    ("907fc000003e99999a", "007fc00000"),
+    ("90bf8000007fc00000", "007fc00000"),
+    // powi to -2^31
+    ("8f3f80000080000000", "007fc00000"),
+    ("8f4000000080000000", "007fc00000"),
+    ("8f0000000080000000", "007fc00000"),
+    ("8f7fc0000080000000", "007fc00000"),
+];
+
+/// Malformed lines of each kind, beside well-formed ones, made of a frame of a known operation and one of an unknown one.
+fn malformed() -> Vec<Vec<u8>> {
+    let mut lines = Vec::new();
+    for good in [frame(0x07, 0x3fc0_ffee, 0xabcd_ef12), frame(0x16, 0xdead_beef, 0)] {
+        lines.push(good.clone());
+        for place in 0..good.len() {
+            for bad in BAD {
+                let mut line = good.clone();
+                line[place] = *bad;
+                lines.push(line);
+            }
+            lines.push(good[..place].to_vec());
+            lines.push([&good[..place], &good[place + 1..]].concat());
+            lines.push([&good[..place], b"0", &good[place..]].concat());
+        }
+        lines.push(good.to_ascii_uppercase());
+        for rest in [&b"\r"[..], b"\0", b" ", b"0", b"00000000"] {
+            lines.push([&good, rest].concat());
+        }
+        lines.extend([2, 3, 15, 100].map(|times| good.repeat(times)));
+        // a length of 18 modulo 256
+        lines.push(good.iter().cycle().take(18 + 256).copied().collect());
+        lines.extend([Vec::new(), b"\r".to_vec(), b"\0".to_vec(), b" ".to_vec(), vec![0; 18], vec![b'\r'; 18], vec![]]);
+    }
+    lines
+}
+
+/// Every number without an operation, with a second word of zero and with another.
+fn unknown(reader: &Reader) -> Vec<Vec<u8>> {
+    let known = reader.known();
+    let numbers = (0..256).filter(|op| known.iter().all(|(n, _)| n != op));
+    numbers.flat_map(|op| [frame(op, 0x3f80_0000, 0), frame(op, 0x7fc0_0000, 0x8000_0000)]).collect()
+}
+
+/// Second words that are not used and not zero, raw and guarded, where the first would be refused too and where it would not.
+fn unused(reader: &Reader) -> Vec<Vec<u8>> {
+    let one_operand = reader.known().into_iter().filter(|(_, kernel)| kernel.takes == Takes::One);
+    let words = [(0x3f80_0000, 1), (0x3f80_0000, 0x8000_0000), (0x7fc0_0000, 0x0000_0010), (0x8000_0000, 0x0100_0000)];
+    one_operand.flat_map(|(op, _)| words.map(|(a, b)| frame(op, a, b))).collect()
+}
+
+/// Both sides of each edge, guarded and raw.
+fn edges(reader: &Reader) -> Vec<Vec<u8>> {
+    reader.known().into_iter().flat_map(|(op, kernel)| edges::words_of(kernel.name).into_iter().map(move |(a, b)| frame(op, a, b))).collect()
+}
+
+/// The whole list. Random words of every operation in turn fill it.
+fn list(reader: &Reader) -> Vec<Vec<u8>> {
+    let mut list = Vec::new();
+    for (line, answer) in EXAMPLES {
+        assert_eq!(written(reader.answer(line.as_bytes())), format!("{answer}\n").as_bytes(), "the reader at {line:?}");
+        list.push(line.as_bytes().to_vec());
+    }
+    list.extend([malformed(), unknown(reader), unused(reader), edges(reader)].concat());
+    let mut random = Lines::new(reader, 11);
+    for (op, kernel) in reader.known().into_iter().cycle().take(FRAMES - list.len()) {
+        list.push(random.of(op, kernel.takes));
+    }
+    list
+}
+
+/// Writes the list to `stdin` and its answers to `stdout` in a folder.
+pub fn write(reader: &Reader, folder: &Path) -> io::Result<()> {
+    let lines = list(reader);
+    let input = joined(&lines);
+    let answers = reader.answers_to(&input);
+    std::fs::create_dir_all(folder)?;
+    std::fs::write(folder.join("stdin"), &input)?;
+    std::fs::write(folder.join("stdout"), &answers)?;
+    println!("{}: {} frames, {} bytes in stdin, {} in stdout", folder.display(), lines.len(), input.len(), answers.len());
+    Ok(())
+}
