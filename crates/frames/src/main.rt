@@ -1,0 +1,4 @@
+// Answers the frames of standard input.
+fn main() {
+    bench::run();
+}

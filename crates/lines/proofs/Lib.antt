@@ -1,0 +1,7 @@
+-- What belongs to no one function.
+pub mod Cutting
+pub mod Meaning
+pub mod Front
+pub mod Feeding
+pub mod Holding
+pub mod OneAnswer
