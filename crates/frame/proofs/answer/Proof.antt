@@ -5,12 +5,12 @@ use Prim.Native.Nat.{ℕ, suc, _+_, _-_, _/_, _%_, _^_, _≤_, _<_}
 use native.Mathlib.Nat.{mod-lt, le-of-lt, le-of-eq, min-eq-left}
 use native.Mathlib.Numerals.{add-one}
 use native.Mathlib.Omega.{arith}
-use mathlib.Core.Path.{_≡_, refl, sym, ap, subst, _∙_}
+use mathlib.Core.Path.{_≡_, refl, ap, _∙_}
 use mathlib.Core.List.{List, [], _∷_, _++_}
-use lib.ListN.{length, take, drop, getD, set, length-append, length-take, length-drop, length-set}
+use lib.ListN.{length, take, drop, set, length-append, length-take, length-drop, length-set}
 use lib.Seq.{take-suc, take-all}
 use denote.Ref.{now}
-use Rattle.frame.specs.Frame.{byteOf, hexBytes, lineWords, answerBytes}
+use Rattle.frame.specs.Frame.{byteOf, hexBytes, answerBytes}
 use Rattle.frame.proofs.Digits.{hex-length, hex-at, next-written}
 use Rattle.frame.proofs.answer.Statement.{statement}
 use Rattle.frame.proofs.answer.Tie as tie

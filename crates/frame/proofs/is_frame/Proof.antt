@@ -11,7 +11,7 @@ use mathlib.Core.List.{List}
 use lib.Dec.{eqb}
 use lib.ListN.{length, getD}
 use denote.Ref.{now}
-use Rattle.frame.specs.Frame.{isDigit, allDigits, isFrame}
+use Rattle.frame.specs.Frame.{isDigit, isFrame}
 use Rattle.frame.proofs.Digits.{not-all, all-of}
 use Rattle.frame.proofs.is_frame.Statement.{statement}
 use Rattle.frame.proofs.is_frame.Tie as tie

@@ -1,12 +1,12 @@
 -- `frame::number` meets its contract: after i digits the number is what they write, and it has at most i digits. Assumes nothing.
 use borrow.Author.Needs.{needs}
-use Prim.Native.Nat.{ℕ, _+_, _-_, _*_, _^_, _≤_, _<_}
+use Prim.Native.Nat.{_+_, _-_, _*_, _^_, _≤_, _<_}
 use native.Mathlib.Omega.{arith}
 use mathlib.Core.Path.{_≡_, refl, sym, _∙_}
 use mathlib.Core.Bool.{true}
 use lib.ListN.{length, take, drop, getD}
 use denote.Ref.{now}
-use Rattle.frame.specs.Frame.{isDigit, digitOf, numberAfter}
+use Rattle.frame.specs.Frame.{isDigit, numberAfter}
 use Rattle.frame.proofs.Digits.{digit-lt, one-more, shorter, longer}
 use Rattle.frame.proofs.number.Statement.{statement}
 use Rattle.frame.proofs.number.Tie as tie
