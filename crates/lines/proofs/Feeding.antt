@@ -1,39 +1,27 @@
 -- The loop of `feed`: what is done so far and what is left to do are the whole. Assumes nothing.
-use Prim.Native.Nat.{ℕ, suc, _+_, _-_, _≤_, _<_}
+use Prim.Native.Nat.{ℕ, _+_, _-_, _≤_, _<_}
 use native.Mathlib.Nat.{sub-zero, zero-add}
 use native.Mathlib.Numerals.{add-one}
 use native.Mathlib.Omega.{arith}
 use mathlib.Core.Path.{_≡_, refl, sym, ap, _∙_}
-use mathlib.Core.Bool.{Bool, true, false, cond}
 use mathlib.Core.List.{List, [], _∷_, _++_, append-assoc, append-nil}
-use borrow.Author.Tests.{eq-eqb, ne-eqb, lt-ltb, le-ltb}
+use borrow.Author.Tests.{ne-eqb, lt-ltb, le-ltb}
 use borrow.Rule.Slice.PartMut.{putMid}
-use lib.Dec.{eqb, ltb}
 use lib.ListN.{length, getD, take, drop, length-append, length-drop, take-append-drop, drop-of-length-le}
-use lib.Seq.{take-all, drop-cons, drop-drop, take-at, drop-at, length-take-le, drop-length}
+use lib.Seq.{take-all, drop-cons, drop-drop, take-at, drop-at, length-take-le}
 use Rattle.frame.specs.Frame.{answerBytes, left}
 use Rattle.lines.specs.declared.Lines.{Lines}
 use Rattle.lines.specs.declared.Fed.{Fed}
 use Rattle.lines.specs.Lines.{newline, answers}
-use Rattle.lines.specs.Held.{lineOf, pushed, ended, after, front, Feeds}
+use Rattle.lines.specs.Held.{lineOf, pushed, ended, after, front, answersFrom, Feeds}
 use Rattle.frame.proofs.Answers.{answer-length}
-
--- the lines as they are held when they end
-abbrev pub ends : Lines → List ℕ → List (List ℕ)
-ends s [] = []
-ends s (b ∷ bs) = cond (eqb b newline) (lineOf s ∷ ends (ended s) bs) (ends (pushed s b) bs)
+use Rattle.lines.proofs.Holding.{ends, as-held}
 
 -- what is left to read after so many bytes, with so many written
 abbrev todo : List ℕ → List ℕ → ℕ → ℕ → List ℕ
 todo chunk space₀ read written = front (length space₀ - written) (drop read chunk)
 
--- what feed answers, with the lines as they are held
-pub record FeedsHeld (s : Lines) (chunk space : List ℕ) (r : Fed) (space′ : List ℕ) : Type 0 where
-  pub read : r .read ≡ length (front (length space) chunk)
-  pub written : r .written ≡ length (answers answerBytes (ends s (front (length space) chunk)))
-  pub bytes : space′ ≡ answers answerBytes (ends s (front (length space) chunk)) ++ drop (r .written) space
-  pub lines : r .lines ≡ after s (front (length space) chunk)
-
+-- with so much read and written, and s as the line begun: what is left to do makes up the whole
 pub record SoFar (s₀ : Lines) (chunk space₀ : List ℕ) (s : Lines) (read written : ℕ) (space : List ℕ) : Type 0 where
   pub within : read ≤ length chunk
   pub room : written ≤ length space₀
@@ -91,26 +79,25 @@ module _ (s₀ : Lines) (chunk space₀ : List ℕ) (s : Lines) (read written : 
       → ys ≡ left (lineOf s) (take (length space - written) (drop written space))
       → SoFar s₀ chunk space₀ (ended s) (read + 1) (written + 11) (putMid written (length space - written) space ys)
   line ys more e h y =
-      let space′ : List ℕ = putMid written (length space - written) space ys in
-      let w = lent written space ys (lineOf s) h y in
       let t = todo-line chunk space₀ read written more e (omega (arith, f .long)) in
-      let fits : written + 11 ≤ length space₀ = omega arith in
-      let a : length (take written space) ≡ written = length-take-le written space (omega (arith, f .long, f .room)) in
-      let b = answer-length (lineOf s) in
-      let p : List ℕ = take written space ++ answerBytes (lineOf s) in
-      let q : space′ ≡ p ++ drop (written + 11) space = w ∙ sym (append-assoc (take written space) (answerBytes (lineOf s)) (drop (written + 11) space)) in
-      let n : length p ≡ written + 11 = length-append (take written space) (answerBytes (lineOf s)) ∙ rw (a, b) in
+      let old : List ℕ = take written space in
+      let new : List ℕ = answerBytes (lineOf s) in
+      let kept : List ℕ = drop (written + 11) space in
+      let later : List ℕ = answers answerBytes (ends (ended s) (todo chunk space₀ (read + 1) (written + 11))) in
+      let a : length old ≡ written = length-take-le written space (omega (arith, f .long, f .room)) in
+      let n : length (old ++ new) ≡ written + 11 = length-append old new ∙ rw (a, answer-length (lineOf s)) in
+      let q = lent written space ys (lineOf s) h y ∙ sym (append-assoc old new kept) in
       record {
         within = omega arith;
-        room = fits;
-        long = ap length q ∙ length-append p (drop (written + 11) space) ∙ rw (n, length-drop) (omega (arith, f .long));
-        kept = rw (q, drop-at p (drop (written + 11) space) (written + 11) n) (sym (drop-drop 11 written space) ∙ ap (drop 11) (f .kept) ∙ drop-drop 11 written space₀);
+        room = omega (arith, f .long);
+        long = ap length q ∙ length-append (old ++ new) kept ∙ rw (n, length-drop) (omega (arith, f .long));
+        kept = rw (q, drop-at (old ++ new) kept (written + 11) n) (sym (drop-drop 11 written space) ∙ ap (drop 11) (f .kept) ∙ drop-drop 11 written space₀);
         count = omega (arith, f .count, ap length t);
         lines = sym (ap (after s) t) ∙ f .lines;
         bytes =
-            ap (λ (l : List ℕ). l ++ answers answerBytes (ends (ended s) (todo chunk space₀ (read + 1) (written + 11)))) (ap (take (written + 11)) q ∙ take-at p (drop (written + 11) space) (written + 11) n)
-            ∙ append-assoc (take written space) (answerBytes (lineOf s)) (answers answerBytes (ends (ended s) (todo chunk space₀ (read + 1) (written + 11))))
-            ∙ sym (ap (λ (l : List ℕ). take written space ++ answers answerBytes (ends s l)) t)
+            ap (λ (l : List ℕ). l ++ later) (ap (take (written + 11)) q ∙ take-at (old ++ new) kept (written + 11) n)
+            ∙ append-assoc old new later
+            ∙ sym (ap (λ (l : List ℕ). old ++ answers answerBytes (ends s l)) t)
             ∙ f .bytes;
       }
 
@@ -130,20 +117,21 @@ module _ (s₀ : Lines) (chunk space₀ : List ℕ) (s : Lines) (read written : 
       }
 
   -- nothing is left to read
-  stop : todo chunk space₀ read written ≡ [] → (r : Fed) → r .read ≡ read → r .written ≡ written → r .lines ≡ s → FeedsHeld s₀ chunk space₀ r space
-  stop t r er ew el =
-      let a : length (take written space) ≡ written = length-take-le written space (omega (arith, f .long, f .room)) in
-      let b : take written space ≡ answers answerBytes (ends s₀ (front (length space₀) chunk)) = sym (append-nil (take written space)) ∙ (rw t at (f .bytes)) in
-      record {
-        read = er ∙ omega (arith, f .count, ap length t);
-        written = ew ∙ sym a ∙ ap length b;
-        bytes = sym (take-append-drop written space) ∙ rw (b, f .kept, ew);
-        lines = el ∙ (rw t at (f .lines));
-      }
+  module _ (held : length (s₀ .held) ≡ 19) (r : Fed) (er : r .read ≡ read) (ew : r .written ≡ written) (el : r .lines ≡ s) where
+    stop : todo chunk space₀ read written ≡ [] → Feeds s₀ chunk space₀ r space
+    stop t =
+        let a : length (take written space) ≡ written = length-take-le written space (omega (arith, f .long, f .room)) in
+        let b : take written space ≡ answersFrom s₀ (front (length space₀) chunk) =
+        sym (append-nil (take written space)) ∙ (rw t at (f .bytes)) ∙ as-held s₀ (front (length space₀) chunk) held in
+        record {
+          read = er ∙ omega (arith, f .count, ap length t);
+          written = ew ∙ sym a ∙ ap length b;
+          bytes = sym (take-append-drop written space) ∙ rw (b, f .kept, ew);
+          lines = el ∙ (rw t at (f .lines));
+        }
 
-  pub done : length chunk ≤ read → (r : Fed) → r .read ≡ read → r .written ≡ written → r .lines ≡ s → FeedsHeld s₀ chunk space₀ r space
-  done h = stop (rw (drop-of-length-le chunk {i = read} h))
+    pub done : length chunk ≤ read → Feeds s₀ chunk space₀ r space
+    done h = stop (rw (drop-of-length-le chunk {i = read} h))
 
-  pub full : read < length chunk → getD chunk read 0 ≡ newline → length space - written < 11
-      → (r : Fed) → r .read ≡ read → r .written ≡ written → r .lines ≡ s → FeedsHeld s₀ chunk space₀ r space
-  full more e h = stop (todo-full chunk space₀ read written more e (omega (arith, f .long)))
+    pub full : read < length chunk → getD chunk read 0 ≡ newline → length space - written < 11 → Feeds s₀ chunk space₀ r space
+    full more e h = stop (todo-full chunk space₀ read written more e (omega (arith, f .long)))

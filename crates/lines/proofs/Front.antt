@@ -1,19 +1,20 @@
 -- How far `feed` reads: no further than the chunk's end, and all of it where every answer has room; where it stops, the next answer has none.
 -- Assumes nothing.
-use Prim.Native.Nat.{ℕ, zero, suc, _+_, _-_, _*_, _≤_, _<_}
+use Prim.Native.Nat.{ℕ, _+_, _-_, _*_, _≤_, _<_}
 use native.Mathlib.Omega.{arith}
 use mathlib.Core.Path.{_≡_, refl, sym, ap, _∙_}
 use mathlib.Core.Bool.{Bool, true, false, cond}
 use mathlib.Core.List.{List, [], _∷_, _++_}
 use borrow.Author.Tests.{eqb-true, eqb-false, ltb-true, ltb-false, eq-eqb, ne-eqb}
 use lib.Dec.{eqb, ltb}
-use lib.ListN.{length, getD, take}
+use lib.ListN.{length, getD, take, drop}
+use lib.Seq.{take-at, drop-at}
 use Rattle.frame.specs.Frame.{answerBytes}
 use Rattle.frame.proofs.Answers.{answer-length}
 use Rattle.lines.specs.declared.Lines.{Lines}
 use Rattle.lines.specs.declared.Fed.{Fed}
 use Rattle.lines.specs.Lines.{newline, completed}
-use Rattle.lines.specs.Held.{lineOf, front, Feeds}
+use Rattle.lines.specs.Held.{lineOf, after, front, answersFrom, Feeds}
 use Rattle.lines.proofs.Meaning.{length-answers}
 
 -- with so much room, of the chunk c the bytes x are read
@@ -100,3 +101,20 @@ module _ (s : Lines) (chunk space : List ℕ) (r : Fed) (space′ : List ℕ) (f
   pub written-within : r .written ≤ length space
   written-within =
       omega (arith, f .written, length-answers answerBytes 11 answer-length (completed (lineOf s) (front (length space) chunk)), fits (lineOf s) (length space) chunk)
+
+  part : front (length space) chunk ≡ take (r .read) chunk
+  part = begins (length space) chunk ∙ ap (λ (n : ℕ). take n chunk) (sym (f .read))
+
+  -- what is answered and what is held are those of the bytes read, and the rest of the space is as it was
+  pub answers-part : take (r .written) space′ ≡ answersFrom s (take (r .read) chunk)
+  answers-part =
+      ap (take (r .written)) (f .bytes)
+      ∙ take-at (answersFrom s (front (length space) chunk)) (drop (r .written) space) (r .written) (sym (f .written))
+      ∙ ap (answersFrom s) part
+
+  pub holds-part : r .lines ≡ after s (take (r .read) chunk)
+  holds-part = f .lines ∙ ap (after s) part
+
+  pub keeps-rest : drop (r .written) space′ ≡ drop (r .written) space
+  keeps-rest =
+      ap (drop (r .written)) (f .bytes) ∙ drop-at (answersFrom s (front (length space) chunk)) (drop (r .written) space) (r .written) (sym (f .written))

@@ -33,6 +33,7 @@ pushed s b = cond (ltb (s .count) 19) (record { held = set (s .held) (s .count) 
 abbrev pub ended : Lines → Lines
 ended s = record { held = s .held; count = 0 }
 
+-- what is held after some bytes
 abbrev pub after : Lines → List ℕ → Lines
 after s [] = s
 after s (b ∷ bs) = cond (eqb b newline) (after (ended s) bs) (after (pushed s b) bs)

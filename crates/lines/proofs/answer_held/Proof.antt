@@ -1,16 +1,12 @@
 -- `lines::answer_held` meets its contract. Assumes nothing.
 use borrow.Author.Needs.{needs}
 use mathlib.Core.Path.{_≡_, sym}
-use Prim.Native.Nat.{ℕ, _≤_}
+use Prim.Native.Nat.{_≤_}
 use native.Mathlib.Omega.{arith}
-use lib.ListN.{length, take}
+use lib.ListN.{length}
 use lib.Seq.{length-take-le, take-all}
-use Rattle.frame.specs.Frame.{left}
 use Rattle.lines.proofs.answer_held.Statement.{statement}
 use Rattle.lines.proofs.answer_held.Tie as tie
-use Rattle.lines.proofs.answer_held.Reads as reads
-use Rattle.lines.proofs.answer_held.Lts as lts
-use Rattle.frame.proofs.answer.Reads as answer-reads
 
 long : (c : tie.After-line) → length (c .before .before .args .held .now) ≡ 19
 long c = c .line .given .0

@@ -1,18 +1,12 @@
 -- `lines::Lines::feed` meets its contract. Assumes nothing.
 use borrow.Author.Needs.{needs}
 use borrow.Author.Tests.{lt-ltb, le-ltb}
-use Prim.Native.Nat.{ℕ, _-_}
+use Prim.Native.Nat.{_-_}
 use mathlib.Core.Path.{_≡_, refl}
-use native.Mathlib.Omega.{arith}
 use lib.ListN.{length}
-use Rattle.lines.specs.declared.Lines.{Lines}
 use Rattle.lines.proofs.Feeding.{SoFar, begin, line, byte, done, full}
-use Rattle.lines.proofs.Holding.{feeds}
 use Rattle.lines.proofs.Lines.feed.Statement.{statement}
 use Rattle.lines.proofs.Lines.feed.Tie as tie
-use Rattle.lines.proofs.Lines.feed.Reads as reads
-use Rattle.lines.proofs.Lines.feed.Lts as lts
-use Rattle.lines.proofs.answer_held.Reads as answer-held-reads
 
 abbrev Inv-loop : tie.InvT-loop
 Inv-loop chunk space₀ held₀ count₀ read₀ written₀ space held count read written =
@@ -37,9 +31,7 @@ feed-spec =
     (λ c.
     let in-loop = c .before .before .before in
     let head = in-loop .before in
-    let a = head .before .before .before .before .args in
-    feeds (a .self) (a .chunk .now) (a .space .now) _ _ (long (head .before))
-    (full _ _ _ _ _ _ _ (head .loop .inv) (in-loop .loop-test .taken) (c .before .if1 .taken) (c .if2 .taken) _ refl refl refl))
+    full _ _ _ _ _ _ _ (head .loop .inv) (long (head .before)) _ refl refl refl (in-loop .loop-test .taken) (c .before .if1 .taken) (c .if2 .taken))
     (λ c. search needs)
     (λ c. search needs)
     (λ c. search needs)
@@ -65,8 +57,4 @@ feed-spec =
     let in-loop = c .before .before .before in
     rw (le-ltb (in-loop .before .loop .count) 19 (c .if3 .left)) at (byte _ _ _ _ _ _ _ (in-loop .before .loop .inv) (in-loop .loop-test .taken) (c .before .if1 .left)))
     (λ c. c .before .loop .inv .long)
-    (λ c.
-    let head = c .before in
-    let a = head .before .before .before .before .args in
-    feeds (a .self) (a .chunk .now) (a .space .now) _ _ (long (head .before))
-    (done _ _ _ _ _ _ _ (head .loop .inv) (c .loop-test .left) _ refl refl refl)))
+    (λ c. done _ _ _ _ _ _ _ (c .before .loop .inv) (long (c .before .before)) _ refl refl refl (c .loop-test .left)))

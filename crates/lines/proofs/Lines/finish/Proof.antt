@@ -5,7 +5,7 @@ use Prim.Native.Nat.{ℕ, _<_}
 use native.Mathlib.Nat.{not-suc-le-zero}
 use native.Mathlib.Omega.{arith}
 use mathlib.Core.Path.{_≡_, refl, sym, ap, _∙_}
-use mathlib.Core.List.{List, [], _∷_, _++_, append-nil}
+use mathlib.Core.List.{List, [], _∷_, append-nil}
 use lib.ListN.{length, length-take}
 use Rattle.frame.specs.Frame.{answerBytes, left}
 use Rattle.lines.specs.declared.Lines.{Lines}
@@ -24,8 +24,8 @@ begun (b ∷ bs) h = refl
 
 one : (s : Lines) (space space′ : List ℕ) → length (s .held) ≡ 19 → (s .count ≡ 0 → ⊥) → space′ ≡ left (lineOf s) space → Finishes s space 11 space′
 one s space space′ h n e =
-    let a : lastAnswer s ≡ answerBytes (lineOf s) =
-    ap (answers answerBytes) (begun (lineOf s) (omega (arith, length-take (s .count) (s .held)))) ∙ append-nil (answerBytes (lineOf s)) in
+    let m : 0 < length (lineOf s) = omega (arith, length-take (s .count) (s .held)) in
+    let a : lastAnswer s ≡ answerBytes (lineOf s) = ap (answers answerBytes) (begun (lineOf s) m) ∙ append-nil (answerBytes (lineOf s)) in
     record { needed = sym (ap length a ∙ answer-length (lineOf s)); bytes = e ∙ rw a }
 
 long : (c : tie.After-held) → length (c .before .before .args .self .held) ≡ 19
