@@ -16,8 +16,8 @@ use Rattle.lines.proofs.Lines.new.Reads as new-reads
 use Rattle.lines.proofs.Lines.feed.Reads as feed-reads
 use Rattle.lines.proofs.Lines.finish.Reads as finish-reads
 
-pub new : (κs : Lfts 0) → OneAnswer (new-reads.Post κs) (λ r x. r)
-new κs = pinned _ (λ a r x p. p)
+pub Lines-new : (κs : Lfts 0) → OneAnswer (new-reads.Post κs) (λ r x. r)
+Lines-new κs = pinned _ (λ a r x p. p)
 
 -- what a caller sees of a call with a lent space
 pub record Seen (R : Type 0) : Type 0 where
@@ -44,8 +44,8 @@ fed-is s chunk space r space′ f = parts (r .lines) (r .read) (r .written) (f .
         → seen (record { lines = t; read = n; written = w }) space′ ≡ fed s chunk space
     parts t n w e e′ e″ = rw (f .bytes, f .written, e, e′, e″)
 
-pub feed : (κs : Lfts 2) → OneAnswer (feed-reads.Post κs) (λ r x. seen r (now (x .1 .1 .0)))
-feed κs = pinned (λ a. fed (a .0) (now (a .1 .0)) (now (a .1 .1 .0))) (λ a r x p. fed-is (a .0) (now (a .1 .0)) (now (a .1 .1 .0)) r (now (x .1 .1 .0)) p)
+pub Lines-feed : (κs : Lfts 2) → OneAnswer (feed-reads.Post κs) (λ r x. seen r (now (x .1 .1 .0)))
+Lines-feed κs = pinned (λ a. fed (a .0) (now (a .1 .0)) (now (a .1 .1 .0))) (λ a r x p. fed-is (a .0) (now (a .1 .0)) (now (a .1 .1 .0)) r (now (x .1 .1 .0)) p)
 
 -- ---- finish
 
@@ -56,5 +56,5 @@ finished-is : (s : Lines) (space : List ℕ) (r : ℕ) (space′ : List ℕ) →
 unfolding finished
 finished-is s space r space′ f = rw (f .bytes, f .needed)
 
-pub finish : (κs : Lfts 1) → OneAnswer (finish-reads.Post κs) (λ r x. seen r (now (x .1 .0)))
-finish κs = pinned (λ a. finished (a .0) (now (a .1 .0))) (λ a r x p. finished-is (a .0) (now (a .1 .0)) r (now (x .1 .0)) p)
+pub Lines-finish : (κs : Lfts 1) → OneAnswer (finish-reads.Post κs) (λ r x. seen r (now (x .1 .0)))
+Lines-finish κs = pinned (λ a. finished (a .0) (now (a .1 .0))) (λ a r x p. finished-is (a .0) (now (a .1 .0)) r (now (x .1 .0)) p)
