@@ -1,0 +1,101 @@
+/* The header's examples, from C: each call beside the answer that is due. Says which are wrong and exits with 1 if any is. */
+#include "dampmeadow.h"
+#include <inttypes.h>
+#include <stdio.h>
+
+static int tried, wrong;
+
+/* One answer, refusal above word, beside the one that is due. */
+static void hold(const char *what, uint64_t answer, uint64_t due)
+{
+    tried++;
+    if (answer == due) return;
+    wrong++;
+    printf("%s: %010" PRIx64 ", and %010" PRIx64 " is due\n", what, answer, due);
+}
+
+/* A guarded call that is answered. */
+static void gives(const char *what, uint32_t op, float a, uint32_t b, float due)
+{
+    hold(what, dampmeadow_words(op, dampmeadow_bits(a), b), dampmeadow_bits(due));
+}
+
+static void refuses(const char *what, uint32_t op, uint32_t a, uint32_t b, uint32_t refusal)
+{
+    hold(what, dampmeadow_words(op, a, b), (uint64_t)refusal << 32);
+}
+
+/* A line of text into a space of 16 bytes, of which `room` are lent: the refusal, the answer, and the bytes that stay. */
+static void line(const char *text, size_t room, uint32_t refusal, const char *answer)
+{
+    uint8_t space[17] = "................";
+    char due[17] = "................";
+    memcpy(due, answer, strlen(answer));
+    hold(text, dampmeadow_answer((const uint8_t *)text, strlen(text), space, room), refusal);
+    tried++;
+    if (memcmp(space, due, sizeof due) == 0) return;
+    wrong++;
+    printf("the answer to '%s' is '%.16s', and '%.16s' is due\n", text, (const char *)space, due);
+}
+
+int main(void)
+{
+    const uint32_t nan = 0x7fc00000;
+
+    gives("trunc -2.5", DAMPMEADOW_TRUNC, -2.5f, 0, -2.0f);
+    gives("fract -2.5", DAMPMEADOW_FRACT, -2.5f, 0, -0.5f);
+    gives("floor -0.5", DAMPMEADOW_FLOOR, -0.5f, 0, -1.0f);
+    gives("ceil 2.5", DAMPMEADOW_CEIL, 2.5f, 0, 3.0f);
+    gives("round 2.5", DAMPMEADOW_ROUND, 2.5f, 0, 3.0f);
+    gives("abs -2.5", DAMPMEADOW_ABS, -2.5f, 0, 2.5f);
+    gives("copysign 2.5 -1", DAMPMEADOW_COPYSIGN, 2.5f, dampmeadow_bits(-1.0f), -2.5f);
+    gives("signum -2.5", DAMPMEADOW_SIGNUM, -2.5f, 0, -1.0f);
+    gives("sqrt 4", DAMPMEADOW_SQRT, 4.0f, 0, 2.0f);
+    gives("sqrt 2", DAMPMEADOW_SQRT, 2.0f, 0, 1.5f);
+    gives("invsqrt 1", DAMPMEADOW_INVSQRT, 1.0f, 0, 0.966225028f);
+    gives("inv 1.5", DAMPMEADOW_INV, 1.5f, 0, 0.75f);
+    gives("recip 4", DAMPMEADOW_RECIP, 4.0f, 0, 0.250000119f);
+    gives("exp 1", DAMPMEADOW_EXP, 1.0f, 0, 2.71828175f);
+    gives("ln 2", DAMPMEADOW_LN, 2.0f, 0, 0.693207741f);
+    gives("powi 3 3", DAMPMEADOW_POWI, 3.0f, 3, 27.0f);
+    gives("powi 2 -1", DAMPMEADOW_POWI, 2.0f, (uint32_t)-1, 0.5f);
+    gives("powf 4 0.5", DAMPMEADOW_POWF, 4.0f, dampmeadow_bits(0.5f), 2.00006056f);
+    gives("atan 1", DAMPMEADOW_ATAN, 1.0f, 0, 0.785398185f);
+    gives("atan2 1 0", DAMPMEADOW_ATAN2, 1.0f, 0, 1.57079637f);
+    gives("cos 0", DAMPMEADOW_COS, 0.0f, 0, 1.0f);
+    gives("sin 1.57079637", DAMPMEADOW_SIN, 1.57079637f, 0, 1.0f);
+    gives("hypot 3 4", DAMPMEADOW_HYPOT, 3.0f, dampmeadow_bits(4.0f), 5.125f);
+
+    refuses("exp of a NaN", DAMPMEADOW_EXP, nan, 0, DAMPMEADOW_NOT_FINITE);
+    refuses("ln 0", DAMPMEADOW_LN, 0, 0, DAMPMEADOW_BLACK);
+    refuses("ln, the largest that is not normal", DAMPMEADOW_LN, 0x007fffff, 0, DAMPMEADOW_BLACK);
+    refuses("sqrt -1", DAMPMEADOW_SQRT, 0xbf800000, 0, DAMPMEADOW_NEGATIVE);
+    refuses("atan2 0 0", DAMPMEADOW_ATAN2, 0, 0, DAMPMEADOW_OUTSIDE);
+    refuses("hypot 0 0", DAMPMEADOW_HYPOT, 0, 0, DAMPMEADOW_OUTSIDE);
+    refuses("powi 3 1048577", DAMPMEADOW_POWI, 0x40400000, 1048577, DAMPMEADOW_POWER_OUTSIDE);
+    refuses("operation 16", 0x16, 0, 0, DAMPMEADOW_NO_SUCH_OPERATION);
+    refuses("sqrt with a second word", DAMPMEADOW_SQRT, 0x40800000, 1, DAMPMEADOW_MALFORMED);
+
+    hold("raw sqrt 0", dampmeadow_words(DAMPMEADOW_RAW + DAMPMEADOW_SQRT, 0, 0), 0x1fc00000);
+    hold("raw sqrt -0", dampmeadow_words(DAMPMEADOW_RAW + DAMPMEADOW_SQRT, 0x80000000, 0), 0x5fc00000);
+    hold("raw atan2 0 0", dampmeadow_words(DAMPMEADOW_RAW + DAMPMEADOW_ATAN2, 0, 0), nan);
+    hold("raw abs keeps a NaN's bits", dampmeadow_words(DAMPMEADOW_RAW + DAMPMEADOW_ABS, 0xff800001, 0), 0x7f800001);
+
+    hold("atan_norm 1, guarded", dampmeadow_atan_norm_guarded(0x3f800000), 0x3f000000);
+    hold("atan_norm of a NaN, guarded", dampmeadow_atan_norm_guarded(nan), (uint64_t)DAMPMEADOW_NOT_FINITE << 32);
+    hold("atan_norm 1", dampmeadow_atan_norm(0x3f800000), 0x3f000000);
+    hold("atan_norm of infinity", dampmeadow_atan_norm(0x7f800000), nan);
+
+    line("094080000000000000", 16, DAMPMEADOW_ANSWERED, "0040000000\n");
+    line("898000000000000000", 11, DAMPMEADOW_ANSWERED, "005fc00000\n");
+    line("09bf80000000000000", 11, DAMPMEADOW_NEGATIVE, "0300000000\n");
+    line("160000000000000000", 16, DAMPMEADOW_NO_SUCH_OPERATION, "0600000000\n");
+    line("", 11, DAMPMEADOW_MALFORMED, "0700000000\n");
+    line("094080000000000000", 10, DAMPMEADOW_NO_ROOM, "");
+
+    hold("the refusal of an answer", dampmeadow_refusal_of(0x300000000), DAMPMEADOW_NEGATIVE);
+    hold("the word of an answer", dampmeadow_word_of(0x340000000), 0x40000000);
+
+    printf("C: %d tried, %d wrong\n", tried, wrong);
+    return wrong != 0;
+}

@@ -1,0 +1,61 @@
+// The header from C++: guarded calls as values or refusals, each beside the answer that is due. Says which are wrong and exits
+// with 1 if any is.
+#include "dampmeadow.h"
+#include <cstdio>
+#include <string>
+
+namespace {
+
+int tried = 0, wrong = 0;
+
+struct Answer {
+    uint32_t refusal;
+    float number;
+    bool operator==(const Answer &other) const { return refusal == other.refusal && number == other.number; }
+};
+
+Answer answer(uint64_t packed) { return {dampmeadow_refusal_of(packed), dampmeadow_float(dampmeadow_word_of(packed))}; }
+
+Answer call(uint32_t op, float x) { return answer(dampmeadow_words(op, dampmeadow_bits(x), 0)); }
+
+Answer call(uint32_t op, float x, float y) { return answer(dampmeadow_words(op, dampmeadow_bits(x), dampmeadow_bits(y))); }
+
+void hold(const char *what, Answer got, Answer due)
+{
+    tried++;
+    if (got == due) return;
+    wrong++;
+    std::printf("%s: refusal %u, %.9g, and refusal %u, %.9g is due\n", what, unsigned(got.refusal), double(got.number), unsigned(due.refusal), double(due.number));
+}
+
+void line(const std::string &text, const std::string &due)
+{
+    tried++;
+    uint8_t space[DAMPMEADOW_ANSWER_LENGTH];
+    dampmeadow_answer(reinterpret_cast<const uint8_t *>(text.data()), text.size(), space, sizeof space);
+    std::string got(reinterpret_cast<const char *>(space), sizeof space);
+    if (got == due + "\n") return;
+    wrong++;
+    std::printf("the answer to '%s' is %s and %s is due\n", text.c_str(), got.c_str(), due.c_str());
+}
+
+}
+
+int main()
+{
+    hold("sqrt 4", call(DAMPMEADOW_SQRT, 4.0f), {DAMPMEADOW_ANSWERED, 2.0f});
+    hold("sqrt -1", call(DAMPMEADOW_SQRT, -1.0f), {DAMPMEADOW_NEGATIVE, 0.0f});
+    hold("cos 2000", call(DAMPMEADOW_COS, 2000.0f), {DAMPMEADOW_OUTSIDE, 0.0f});
+    hold("hypot 3 4", call(DAMPMEADOW_HYPOT, 3.0f, 4.0f), {DAMPMEADOW_ANSWERED, 5.125f});
+    hold("hypot 0 0", call(DAMPMEADOW_HYPOT, 0.0f, 0.0f), {DAMPMEADOW_OUTSIDE, 0.0f});
+    hold("atan2 1 0", call(DAMPMEADOW_ATAN2, 1.0f, 0.0f), {DAMPMEADOW_ANSWERED, 1.57079637f});
+    hold("powi 2 -1", answer(dampmeadow_words(DAMPMEADOW_POWI, dampmeadow_bits(2.0f), uint32_t(-1))), {DAMPMEADOW_ANSWERED, 0.5f});
+    hold("raw inv -1", call(DAMPMEADOW_RAW + DAMPMEADOW_INV, -1.0f), {DAMPMEADOW_ANSWERED, -1.0f});
+    hold("atan_norm 1, guarded", answer(dampmeadow_atan_norm_guarded(0x3f800000)), {DAMPMEADOW_ANSWERED, 0.5f});
+    hold("atan_norm 1", {0, dampmeadow_float(dampmeadow_atan_norm(0x3f800000))}, {0, 0.5f});
+    line("094080000000000000", "0040000000");
+    line("a frame is eighteen digits", "0700000000");
+
+    std::printf("C++: %d tried, %d wrong\n", tried, wrong);
+    return wrong != 0;
+}

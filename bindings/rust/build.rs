@@ -1,0 +1,153 @@
+//! Finds libdampmeadow.a for the processor that is compiled for, or builds it with `rt`, or says what is missing.
+//!
+//! It is looked for in the folder DAMPMEADOW_LIB_DIR, where that is set, and nowhere else then. Else in the repository's
+//! target/staticlib, where `rt staticlib dampmeadow` writes it for x86-64, and in target/library, where bindings/try puts one
+//! for the machine that it runs on. One that is older than the crates it is built from is not taken.
+
+use std::path::{Path, PathBuf};
+use std::process::{exit, Command};
+use std::time::SystemTime;
+use std::{env, fs, io};
+
+const LIBRARY: &str = "libdampmeadow.a";
+
+fn main() {
+    println!("cargo:rerun-if-env-changed=DAMPMEADOW_LIB_DIR");
+    println!("cargo:rerun-if-changed=build.rs");
+    match folder() {
+        Ok(folder) => {
+            println!("cargo:rerun-if-changed={}", folder.join(LIBRARY).display());
+            println!("cargo:rustc-link-search=native={}", folder.display());
+            println!("cargo:rustc-link-lib=static=dampmeadow");
+        }
+        Err(why) => {
+            eprintln!("dampmeadow: {why}");
+            exit(1);
+        }
+    }
+}
+
+/// The folder that holds the library.
+fn folder() -> Result<PathBuf, String> {
+    let processor = env::var("CARGO_CFG_TARGET_ARCH").unwrap_or_default();
+    if let Some(given) = env::var_os("DAMPMEADOW_LIB_DIR") {
+        let given = PathBuf::from(given);
+        return match fault(&given, &processor, None) {
+            None => Ok(given),
+            Some(fault) => Err(format!("DAMPMEADOW_LIB_DIR: {fault}")),
+        };
+    }
+
+    let root = repository()?;
+    let crates = root.join("crates");
+    println!("cargo:rerun-if-changed={}", crates.display());
+    let (staticlib, library) = (root.join("target/staticlib"), root.join("target/library"));
+    let changed = newest(&crates).max(newest(&root.join("crates.txt")));
+    let mut faults = Vec::new();
+    for folder in [&staticlib, &library] {
+        match fault(folder, &processor, changed) {
+            None => return Ok(folder.clone()),
+            Some(fault) => faults.push(fault),
+        }
+    }
+    let faults = faults.join("; ");
+    if processor != "x86_64" {
+        return Err(format!(
+            "{faults}. rt builds it for x86-64 alone, and this build is for {processor}: on a {processor} machine run \
+             bindings/try once, which has it built for that machine in target/library, or set DAMPMEADOW_LIB_DIR to a \
+             folder that holds a {LIBRARY} for {processor}"
+        ));
+    }
+    build(&root).map_err(|why| format!("{faults}. {why}"))?;
+    match fault(&staticlib, &processor, None) {
+        None => Ok(staticlib),
+        Some(fault) => Err(format!("rt staticlib dampmeadow ended well, but {fault}")),
+    }
+}
+
+/// The repository that this folder stands in as bindings/rust.
+fn repository() -> Result<PathBuf, String> {
+    let here = PathBuf::from(env::var_os("CARGO_MANIFEST_DIR").unwrap_or_default());
+    match here.ancestors().nth(2) {
+        Some(root) if root.join("crates/dampmeadow").is_dir() => Ok(root.to_path_buf()),
+        _ => Err(format!(
+            "{} stands outside the repository, so there is nothing to build the library from: set DAMPMEADOW_LIB_DIR to a \
+             folder that holds {LIBRARY}",
+            here.display()
+        )),
+    }
+}
+
+/// Proves and builds the library, for x86-64.
+fn build(root: &Path) -> Result<(), String> {
+    let run = Command::new("rt").args(["staticlib", "dampmeadow"]).current_dir(root).output();
+    let run = run.map_err(|why| match why.kind() {
+        io::ErrorKind::NotFound => format!(
+            "rt is missing, the command of the Rattle kit, which proves and builds the library: put it on the PATH, or set \
+             DAMPMEADOW_LIB_DIR to a folder that holds {LIBRARY}"
+        ),
+        _ => format!("rt could not be run: {why}"),
+    })?;
+    if run.status.success() {
+        return Ok(());
+    }
+    let said = [run.stdout, run.stderr].concat();
+    Err(format!("rt staticlib dampmeadow did not build it ({}):\n{}", run.status, String::from_utf8_lossy(&said)))
+}
+
+/// What is wrong with the library in a folder, if anything.
+fn fault(folder: &Path, processor: &str, changed: Option<SystemTime>) -> Option<String> {
+    let path = folder.join(LIBRARY);
+    let bytes = match fs::read(&path) {
+        Ok(bytes) => bytes,
+        Err(why) if why.kind() == io::ErrorKind::NotFound => return Some(format!("there is no {}", path.display())),
+        Err(why) => return Some(format!("{} cannot be read: {why}", path.display())),
+    };
+    if let (Some(has), Some(wants)) = (machine(&bytes), number(processor)) {
+        if has != wants {
+            return Some(format!("{} is for {}, not for {processor}", path.display(), name(has)));
+        }
+    }
+    let made = fs::metadata(&path).and_then(|about| about.modified()).ok();
+    if changed > made {
+        return Some(format!("{} is older than the crates", path.display()));
+    }
+    None
+}
+
+/// When something at or under a path last changed.
+fn newest(path: &Path) -> Option<SystemTime> {
+    let own = fs::metadata(path).and_then(|about| about.modified()).ok();
+    let within = fs::read_dir(path).into_iter().flatten().flatten().filter_map(|entry| newest(&entry.path())).max();
+    own.max(within)
+}
+
+/// ELF's numbers of processors.
+const PROCESSORS: [(&str, u16); 3] = [("x86_64", 62), ("aarch64", 183), ("riscv64", 243)];
+
+fn number(processor: &str) -> Option<u16> {
+    PROCESSORS.iter().find(|(name, _)| *name == processor).map(|(_, number)| *number)
+}
+
+fn name(number: u16) -> String {
+    let known = PROCESSORS.iter().find(|(_, known)| *known == number);
+    known.map_or_else(|| format!("processor {number} of ELF's list"), |(name, _)| name.to_string())
+}
+
+/// The processor that the first ELF object of an archive is for.
+fn machine(archive: &[u8]) -> Option<u16> {
+    const HEADER: usize = 60;
+    let mut rest = archive.strip_prefix(b"!<arch>\n")?;
+    while rest.len() > HEADER {
+        let (header, members) = rest.split_at(HEADER);
+        let size: usize = std::str::from_utf8(&header[48..58]).ok()?.trim().parse().ok()?;
+        let object = members.get(..size)?;
+        if object.starts_with(b"\x7fELF") && size > 20 {
+            let bytes = [object[18], object[19]];
+            return Some(if object[5] == 2 { u16::from_be_bytes(bytes) } else { u16::from_le_bytes(bytes) });
+        }
+        // members begin at even places
+        rest = members.get(size + size % 2..)?;
+    }
+    None
+}

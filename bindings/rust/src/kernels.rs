@@ -1,0 +1,241 @@
+//! Each kernel guarded, by name: floats in, and a number that is never a NaN or a refusal out. A NaN or an infinity is refused
+//! with [`Refusal::NotFinite`] by all of them. "Above 0" and "not 0" leave out the numbers that are too small to be normal.
+
+use crate::{guarded, Operation, Refusal};
+
+/// The whole part, toward 0. Takes |x| under 2^32.
+///
+/// ```
+/// use dampmeadow::{trunc, Refusal};
+/// assert_eq!(trunc(-2.5), Ok(-2.0));
+/// assert_eq!(trunc(4294967296.0), Err(Refusal::Outside));
+/// ```
+pub fn trunc(x: f32) -> Result<f32, Refusal> {
+    guarded(Operation::Trunc, x.to_bits(), 0)
+}
+
+/// What trunc leaves, with the sign of x. Takes |x| under 2^32.
+///
+/// ```
+/// use dampmeadow::{fract, Refusal};
+/// assert_eq!(fract(-2.5), Ok(-0.5));
+/// assert_eq!(fract(f32::NAN), Err(Refusal::NotFinite));
+/// ```
+pub fn fract(x: f32) -> Result<f32, Refusal> {
+    guarded(Operation::Fract, x.to_bits(), 0)
+}
+
+/// The largest whole number that is not above x; a zero is +0. Takes |x| to 2^31.
+///
+/// ```
+/// use dampmeadow::{floor, Refusal};
+/// assert_eq!(floor(-0.5), Ok(-1.0));
+/// assert_eq!(floor(3.0e9), Err(Refusal::Outside));
+/// ```
+pub fn floor(x: f32) -> Result<f32, Refusal> {
+    guarded(Operation::Floor, x.to_bits(), 0)
+}
+
+/// The smallest whole number that is not below x; a zero is -0. Takes |x| to 2^31.
+///
+/// ```
+/// use dampmeadow::{ceil, Refusal};
+/// assert_eq!(ceil(2.5), Ok(3.0));
+/// assert_eq!(ceil(3.0e9), Err(Refusal::Outside));
+/// ```
+pub fn ceil(x: f32) -> Result<f32, Refusal> {
+    guarded(Operation::Ceil, x.to_bits(), 0)
+}
+
+/// The nearest whole number, halves away from 0; a zero is +0. Takes |x| under 2^23, but not the magnitude 3effffff, the
+/// last below 0.5.
+///
+/// ```
+/// use dampmeadow::{round, Refusal};
+/// assert_eq!(round(2.5), Ok(3.0));
+/// assert_eq!(round(8388608.0), Err(Refusal::Outside));
+/// ```
+pub fn round(x: f32) -> Result<f32, Refusal> {
+    guarded(Operation::Round, x.to_bits(), 0)
+}
+
+/// x without its sign. Takes every finite number.
+///
+/// ```
+/// use dampmeadow::{abs, Refusal};
+/// assert_eq!(abs(-2.5), Ok(2.5));
+/// assert_eq!(abs(f32::INFINITY), Err(Refusal::NotFinite));
+/// ```
+pub fn abs(x: f32) -> Result<f32, Refusal> {
+    guarded(Operation::Abs, x.to_bits(), 0)
+}
+
+/// x with the sign of the second operand. Takes all finite numbers.
+///
+/// ```
+/// use dampmeadow::{copysign, Refusal};
+/// assert_eq!(copysign(2.5, -1.0), Ok(-2.5));
+/// assert_eq!(copysign(2.5, f32::NAN), Err(Refusal::NotFinite));
+/// ```
+pub fn copysign(x: f32, sign: f32) -> Result<f32, Refusal> {
+    guarded(Operation::Copysign, x.to_bits(), sign.to_bits())
+}
+
+/// 1, or -1 where the sign bit of x is set; for zeros too. Takes every finite number.
+///
+/// ```
+/// use dampmeadow::signum;
+/// assert_eq!(signum(-2.5), Ok(-1.0));
+/// assert_eq!(signum(-0.0), Ok(-1.0));
+/// ```
+pub fn signum(x: f32) -> Result<f32, Refusal> {
+    guarded(Operation::Signum, x.to_bits(), 0)
+}
+
+/// The square root, some 6 percent too large at most. Takes x above 0.
+///
+/// ```
+/// use dampmeadow::{sqrt, Refusal};
+/// assert_eq!(sqrt(4.0), Ok(2.0));
+/// assert_eq!(sqrt(2.0), Ok(1.5));
+/// assert_eq!(sqrt(0.0), Err(Refusal::Black));
+/// ```
+pub fn sqrt(x: f32) -> Result<f32, Refusal> {
+    guarded(Operation::Sqrt, x.to_bits(), 0)
+}
+
+/// 1 over the square root, some 4 percent off at most. Takes x above 0.
+///
+/// ```
+/// use dampmeadow::{invsqrt, Refusal};
+/// assert_eq!(invsqrt(1.0), Ok(0.966225028));
+/// assert_eq!(invsqrt(-1.0), Err(Refusal::Negative));
+/// ```
+pub fn invsqrt(x: f32) -> Result<f32, Refusal> {
+    guarded(Operation::Invsqrt, x.to_bits(), 0)
+}
+
+/// 1/x, the quickest, 12.5 percent too large at most. Takes x above 0, to 2^126.
+///
+/// ```
+/// use dampmeadow::{inv, Refusal};
+/// assert_eq!(inv(1.5), Ok(0.75));
+/// assert_eq!(inv(1.0e38), Err(Refusal::Outside));
+/// ```
+pub fn inv(x: f32) -> Result<f32, Refusal> {
+    guarded(Operation::Inv, x.to_bits(), 0)
+}
+
+/// 1/x, closer than [`inv`] and of either sign. Takes x that is not 0, |x| to 2^125.
+///
+/// ```
+/// use dampmeadow::{recip, Refusal};
+/// assert_eq!(recip(4.0), Ok(0.250000119));
+/// assert_eq!(recip(0.0), Err(Refusal::Black));
+/// ```
+pub fn recip(x: f32) -> Result<f32, Refusal> {
+    guarded(Operation::Recip, x.to_bits(), 0)
+}
+
+/// e to the x. Takes -87 to 88.
+///
+/// ```
+/// use dampmeadow::{exp, Refusal};
+/// assert_eq!(exp(1.0), Ok(2.71828175));
+/// assert_eq!(exp(89.0), Err(Refusal::Outside));
+/// ```
+pub fn exp(x: f32) -> Result<f32, Refusal> {
+    guarded(Operation::Exp, x.to_bits(), 0)
+}
+
+/// The natural logarithm. Takes x above 0.
+///
+/// ```
+/// use dampmeadow::{ln, Refusal};
+/// assert_eq!(ln(1.0), Ok(0.0));
+/// assert_eq!(ln(2.0), Ok(0.693207741));
+/// assert_eq!(ln(-2.0), Err(Refusal::Negative));
+/// ```
+pub fn ln(x: f32) -> Result<f32, Refusal> {
+    guarded(Operation::Ln, x.to_bits(), 0)
+}
+
+/// x to a whole power. Takes x that is not 0 and a power from -1048576 to 1048576. It gives up early on large and small
+/// results, with an infinity or 0.
+///
+/// ```
+/// use dampmeadow::{powi, Refusal};
+/// assert_eq!(powi(3.0, 3), Ok(27.0));
+/// assert_eq!(powi(2.0, -1), Ok(0.5));
+/// assert_eq!(powi(3.0, 128), Ok(f32::INFINITY));
+/// assert_eq!(powi(3.0, 1_048_577), Err(Refusal::PowerOutside));
+/// ```
+pub fn powi(x: f32, n: i32) -> Result<f32, Refusal> {
+    guarded(Operation::Powi, x.to_bits(), n as u32)
+}
+
+/// x to the power n. Takes x above 0, where n·ln(x) is from -87 to 88.
+///
+/// ```
+/// use dampmeadow::{powf, Refusal};
+/// assert_eq!(powf(4.0, 0.5), Ok(2.00006056));
+/// assert_eq!(powf(-4.0, 0.5), Err(Refusal::Negative));
+/// ```
+pub fn powf(x: f32, n: f32) -> Result<f32, Refusal> {
+    guarded(Operation::Powf, x.to_bits(), n.to_bits())
+}
+
+/// The arctangent, in radians. Takes |x| under 2^64.
+///
+/// ```
+/// use dampmeadow::{atan, Refusal};
+/// assert_eq!(atan(1.0), Ok(0.785398185));
+/// assert_eq!(atan(1.0e20), Err(Refusal::Outside));
+/// ```
+pub fn atan(x: f32) -> Result<f32, Refusal> {
+    guarded(Operation::Atan, x.to_bits(), 0)
+}
+
+/// The angle of the point (x, y), in radians. Takes a pair of which the larger magnitude is from 2^-60 to 2^60.
+///
+/// ```
+/// use dampmeadow::{atan2, Refusal};
+/// assert_eq!(atan2(1.0, 0.0), Ok(1.57079637));
+/// assert_eq!(atan2(0.0, 0.0), Err(Refusal::Outside));
+/// ```
+pub fn atan2(y: f32, x: f32) -> Result<f32, Refusal> {
+    guarded(Operation::Atan2, y.to_bits(), x.to_bits())
+}
+
+/// The cosine of x radians. Takes |x| to 1024.
+///
+/// ```
+/// use dampmeadow::{cos, Refusal};
+/// assert_eq!(cos(0.0), Ok(1.0));
+/// assert_eq!(cos(2000.0), Err(Refusal::Outside));
+/// ```
+pub fn cos(x: f32) -> Result<f32, Refusal> {
+    guarded(Operation::Cos, x.to_bits(), 0)
+}
+
+/// The sine of x radians. Takes |x| to 1024.
+///
+/// ```
+/// use dampmeadow::{sin, Refusal};
+/// assert_eq!(sin(1.57079637), Ok(1.0));
+/// assert_eq!(sin(2000.0), Err(Refusal::Outside));
+/// ```
+pub fn sin(x: f32) -> Result<f32, Refusal> {
+    guarded(Operation::Sin, x.to_bits(), 0)
+}
+
+/// The length of (x, y). Takes a pair of which the larger magnitude is from 2^-60 to 2^60.
+///
+/// ```
+/// use dampmeadow::{hypot, Refusal};
+/// assert_eq!(hypot(3.0, 4.0), Ok(5.125));
+/// assert_eq!(hypot(0.0, 0.0), Err(Refusal::Outside));
+/// ```
+pub fn hypot(x: f32, y: f32) -> Result<f32, Refusal> {
+    guarded(Operation::Hypot, x.to_bits(), y.to_bits())
+}

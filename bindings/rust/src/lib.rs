@@ -1,0 +1,144 @@
+//! Float kernels that give a number or say why not: safe calls to the library of Dampmeadow, in which every function is proved
+//! to meet its contract.
+//!
+//! Each kernel has a guarded form under its own name, which gives a number that is never a NaN, or a [`Refusal`]:
+//!
+//! ```
+//! use dampmeadow::{atan2, hypot, Refusal};
+//!
+//! fn edge(across: f32, down: f32) -> Result<(f32, f32), Refusal> {
+//!     Ok((hypot(across, down)?, atan2(down, across)?))
+//! }
+//!
+//! assert_eq!(edge(3.0, 4.0).map(|(strength, _)| strength), Ok(5.125));
+//! // flat white has no edge, and so no direction
+//! assert_eq!(edge(0.0, 0.0), Err(Refusal::Outside));
+//! ```
+//!
+//! The kernels are those of micromath, to the bit: quick estimates, some of them percents off. [`raw`] gives what micromath
+//! gives for every word, NaN and infinity among them. [`call`] takes any operation by its number, and [`answer`] a frame, which
+//! is a line of text. Nothing is kept between calls, so they may be made from any thread.
+//!
+//! The build script says where the library is looked for and what is missing where it is not found.
+
+#![no_std]
+#![deny(unsafe_op_in_unsafe_fn)]
+
+mod kernels;
+mod operation;
+mod refusal;
+
+pub use kernels::*;
+pub use operation::Operation;
+pub use refusal::Refusal;
+
+/// The bytes of an answer to a frame.
+pub const ANSWER_LENGTH: usize = 11;
+
+/// The exported calls. A slice is two arguments there, where it begins and how long it is.
+mod exported {
+    extern "C" {
+        pub fn dampmeadow_words(op: u32, a: u32, b: u32) -> u64;
+        pub fn dampmeadow_answer(line: *const u8, length: usize, space: *mut u8, room: usize) -> u32;
+        pub fn dampmeadow_atan_norm(a: u32) -> u32;
+        pub fn dampmeadow_atan_norm_guarded(a: u32) -> u64;
+    }
+}
+
+/// `Ok` for 0, and else the refusal of that number.
+fn judged<T>(number: u32, answer: T) -> Result<T, Refusal> {
+    match number {
+        0 => Ok(answer),
+        _ => Err(Refusal::from_number(number).expect("the library gives refusals from 1 to 8 and no others")),
+    }
+}
+
+/// A refusal in the high 32 bits, and a word in the low 32.
+fn unpacked(packed: u64) -> Result<u32, Refusal> {
+    judged((packed >> 32) as u32, packed as u32)
+}
+
+/// Calls an operation, guarded or raw, by its number in a frame: words in, a word out. Every number and all words may be asked
+/// for.
+///
+/// ```
+/// use dampmeadow::{call, Refusal};
+/// assert_eq!(call(0x09, 0x40800000, 0), Ok(0x40000000));
+/// assert_eq!(call(0x89, 0x80000000, 0), Ok(0x5fc00000));
+/// assert_eq!(call(0x16, 0, 0), Err(Refusal::NoSuchOperation));
+/// ```
+pub fn call(op: u32, a: u32, b: u32) -> Result<u32, Refusal> {
+    // SAFETY: numbers alone go in and come out, and every one is answered.
+    unpacked(unsafe { exported::dampmeadow_words(op, a, b) })
+}
+
+/// The raw form of an operation: what micromath gives, as its 32 bits, for all words. The only refusal is
+/// [`Refusal::Malformed`], where the second word is not used and is not 0. powi's second word is its power, `n as u32`.
+///
+/// ```
+/// use dampmeadow::{raw, Operation, Refusal};
+/// assert_eq!(raw(Operation::Sqrt, 4.0f32.to_bits(), 0), Ok(2.0f32.to_bits()));
+/// assert_eq!(raw(Operation::Sqrt, 0, 0), Ok(0x1fc00000));
+/// assert_eq!(raw(Operation::Atan2, 0, 0), Ok(0x7fc00000));
+/// assert_eq!(raw(Operation::Sqrt, 0, 1), Err(Refusal::Malformed));
+/// ```
+pub fn raw(op: Operation, a: u32, b: u32) -> Result<u32, Refusal> {
+    call(op.raw_number(), a, b)
+}
+
+/// The guarded form of an operation, which the functions under the kernels' names call: words in, and a number that is never a
+/// NaN out. powi's may be an infinity.
+///
+/// ```
+/// use dampmeadow::{guarded, Operation, Refusal};
+/// assert_eq!(guarded(Operation::Sqrt, 4.0f32.to_bits(), 0), Ok(2.0));
+/// assert_eq!(guarded(Operation::Powi, 2.0f32.to_bits(), -1i32 as u32), Ok(0.5));
+/// assert_eq!(guarded(Operation::Sqrt, 0x7fc00000, 0), Err(Refusal::NotFinite));
+/// ```
+pub fn guarded(op: Operation, a: u32, b: u32) -> Result<f32, Refusal> {
+    call(op.number(), a, b).map(f32::from_bits)
+}
+
+/// The arctangent as a share of a quarter turn, from -1 to 1, guarded. Takes |x| under 2^64. It has no operation number.
+///
+/// ```
+/// use dampmeadow::{atan_norm, Refusal};
+/// assert_eq!(atan_norm(1.0), Ok(0.5));
+/// assert_eq!(atan_norm(f32::INFINITY), Err(Refusal::NotFinite));
+/// ```
+pub fn atan_norm(x: f32) -> Result<f32, Refusal> {
+    // SAFETY: as in `call`.
+    unpacked(unsafe { exported::dampmeadow_atan_norm_guarded(x.to_bits()) }).map(f32::from_bits)
+}
+
+/// The raw form of [`atan_norm`]: any word in, the word that micromath gives out, and no refusal.
+///
+/// ```
+/// use dampmeadow::raw_atan_norm;
+/// assert_eq!(raw_atan_norm(0x3f800000), 0x3f000000);
+/// assert_eq!(raw_atan_norm(0x7f800000), 0x7fc00000);
+/// ```
+pub fn raw_atan_norm(a: u32) -> u32 {
+    // SAFETY: as in `call`.
+    unsafe { exported::dampmeadow_atan_norm(a) }
+}
+
+/// Answers a frame, given as a line without its newline: [`ANSWER_LENGTH`] bytes at the front of the space, the refusal in two
+/// digits, the word in eight and a newline. The bytes after them stay. They are written for a refusal too, but for
+/// [`Refusal::NoRoom`]: a space of fewer bytes stays as it is. Any bytes may be given as a line.
+///
+/// ```
+/// use dampmeadow::{answer, Refusal, ANSWER_LENGTH};
+/// let mut space = [0; ANSWER_LENGTH];
+/// assert_eq!(answer(b"094080000000000000", &mut space), Ok(()));
+/// assert_eq!(&space, b"0040000000\n");
+/// assert_eq!(answer(b"09bf80000000000000", &mut space), Err(Refusal::Negative));
+/// assert_eq!(&space, b"0300000000\n");
+/// assert_eq!(answer(b"094080000000000000", &mut space[..10]), Err(Refusal::NoRoom));
+/// ```
+pub fn answer(line: &[u8], space: &mut [u8]) -> Result<(), Refusal> {
+    // SAFETY: both pointers come from slices with their own lengths, which do not overlap since one of them is lent to be
+    // changed; the call reads the line, writes to the space, and keeps neither.
+    let refusal = unsafe { exported::dampmeadow_answer(line.as_ptr(), line.len(), space.as_mut_ptr(), space.len()) };
+    judged(refusal, ())
+}

@@ -1,0 +1,138 @@
+//! The calls together: numbers, edges of the gates, and what a space holds after an answer.
+
+use dampmeadow::*;
+use std::error::Error;
+
+/// Words of every kind: zeros, the ends of the normal numbers, small and large ones, infinities and NaN.
+const WORDS: [u32; 16] = [
+    0x00000000, 0x00000001, 0x007fffff, 0x00800000, 0x21800000, 0x3effffff, 0x3f000000, 0x3f800000, 0x40200000, 0x42b00000,
+    0x44800000, 0x4f000000, 0x5d800000, 0x7f7fffff, 0x7f800000, 0x7fc00001,
+];
+
+fn words() -> impl Iterator<Item = u32> {
+    WORDS.into_iter().flat_map(|word| [word, word | 0x8000_0000])
+}
+
+#[test]
+fn a_guarded_answer_is_the_raw_one_and_no_nan() {
+    let mut answered = 0;
+    for op in Operation::ALL {
+        for a in words() {
+            for b in words().filter(|&b| op.takes_two() || b == 0) {
+                if let Ok(number) = guarded(op, a, b) {
+                    assert_eq!(raw(op, a, b), Ok(number.to_bits()), "{op:?} {a:08x} {b:08x}");
+                    assert!(!number.is_nan(), "{op:?} {a:08x} {b:08x}");
+                    answered += 1;
+                }
+            }
+        }
+    }
+    assert!(answered > 500, "only {answered} answered");
+}
+
+#[test]
+fn every_raw_operation_answers_every_word() {
+    for op in Operation::ALL {
+        for a in words() {
+            for b in words() {
+                let refused = b != 0 && !op.takes_two();
+                assert_eq!(raw(op, a, b).err(), refused.then_some(Refusal::Malformed), "{op:?} {a:08x} {b:08x}");
+            }
+        }
+    }
+}
+
+#[test]
+fn the_operations_have_their_numbers_and_no_others_exist() {
+    for (place, op) in (1..).zip(Operation::ALL) {
+        assert_eq!(op.number(), place);
+    }
+    for op in (0..0x200).chain([0x100, 0x109, 0x8000_0009, u32::MAX]) {
+        let exists = (0x01..=0x15).contains(&op) || (0x81..=0x95).contains(&op);
+        assert_eq!(call(op, 0x3f80_0000, 0) != Err(Refusal::NoSuchOperation), exists, "{op:02x}");
+    }
+}
+
+#[test]
+fn both_sides_of_the_gates() {
+    let edges = [
+        (Operation::Trunc, 0x4f7f_ffff, 0x4f80_0000),
+        (Operation::Fract, 0xcf7f_ffff, 0xcf80_0000),
+        (Operation::Floor, 0x4f00_0000, 0x4f00_0001),
+        (Operation::Ceil, 0xcf00_0000, 0xcf00_0001),
+        (Operation::Round, 0x4aff_ffff, 0x4b00_0000),
+        (Operation::Round, 0x3eff_fffe, 0x3eff_ffff),
+        (Operation::Inv, 0x7e80_0000, 0x7e80_0001),
+        (Operation::Recip, 0x7e00_0000, 0x7e00_0001),
+        (Operation::Exp, 0x42b0_0000, 0x42b0_0001),
+        (Operation::Exp, 0xc2ae_0000, 0xc2ae_0001),
+        (Operation::Atan, 0x5f7f_ffff, 0x5f80_0000),
+        (Operation::Cos, 0x4480_0000, 0x4480_0001),
+        (Operation::Sin, 0xc480_0000, 0xc480_0001),
+        (Operation::Hypot, 0x2180_0000, 0x217f_ffff),
+        (Operation::Atan2, 0x5d80_0000, 0x5d80_0001),
+    ];
+    for (op, takes, refuses) in edges {
+        assert!(guarded(op, takes, 0).is_ok(), "{op:?} {takes:08x}");
+        assert_eq!(guarded(op, refuses, 0), Err(Refusal::Outside), "{op:?} {refuses:08x}");
+    }
+    assert_eq!(atan_norm(f32::from_bits(0x5f80_0000)), Err(Refusal::Outside));
+    assert!(sqrt(f32::MIN_POSITIVE).is_ok());
+    assert_eq!(sqrt(f32::from_bits(0x007f_ffff)), Err(Refusal::Black));
+    assert!(powi(3.0, 1_048_576).is_ok() && powi(3.0, -1_048_576).is_ok());
+    assert_eq!(powi(3.0, -1_048_577), Err(Refusal::PowerOutside));
+}
+
+#[test]
+fn a_space_has_eleven_bytes_changed_and_no_other() {
+    for room in 0..40 {
+        let mut space = vec![b'.'; room];
+        let refusal = answer(b"12000000003f800000", &mut space);
+        if room < ANSWER_LENGTH {
+            assert_eq!(refusal, Err(Refusal::NoRoom));
+            assert!(space.iter().all(|&byte| byte == b'.'));
+        } else {
+            assert_eq!(refusal, Ok(()));
+            assert_eq!(&space[..ANSWER_LENGTH], b"0000000000\n");
+            assert!(space[ANSWER_LENGTH..].iter().all(|&byte| byte == b'.'));
+        }
+    }
+}
+
+#[test]
+fn a_line_that_is_no_frame_is_malformed() {
+    let mut space = [0; ANSWER_LENGTH];
+    let long = vec![b'0'; 100_000];
+    for line in [&b""[..], b"09408000000000000", b"0940800000000000000", b"09408000000000000G", b"0A4080000000000000", &long] {
+        assert_eq!(answer(line, &mut space), Err(Refusal::Malformed));
+        assert_eq!(&space, b"0700000000\n");
+    }
+}
+
+#[test]
+fn a_frame_and_a_call_agree() {
+    let mut space = [0; ANSWER_LENGTH];
+    for op in (0..0x18).chain(0x80..0x98) {
+        for a in words() {
+            for b in [0, 1, 0x3f80_0000, 0xffc0_0000] {
+                let by_number = call(op, a, b);
+                let by_line = answer(format!("{op:02x}{a:08x}{b:08x}").as_bytes(), &mut space);
+                assert_eq!(by_line, by_number.map(|_| ()));
+                let refusal = by_number.err().map_or(0, Refusal::number);
+                let due = format!("{refusal:02x}{:08x}\n", by_number.unwrap_or(0));
+                assert_eq!(space, due.as_bytes());
+            }
+        }
+    }
+}
+
+#[test]
+fn a_refusal_is_an_error_with_its_number() {
+    for (number, refusal) in (1..).zip(Refusal::ALL) {
+        assert_eq!(refusal.number(), number);
+        assert_eq!(Refusal::from_number(number), Some(refusal));
+    }
+    assert_eq!(Refusal::from_number(9), None);
+    let asked: Result<f32, Box<dyn Error>> = ln(0.0).map_err(Box::from);
+    assert_eq!(asked.unwrap_err().to_string(), "black first operand");
+}

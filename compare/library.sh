@@ -1,0 +1,48 @@
+# Builds libraries of this repository for the machine that it runs on. Sourced by compare/run and bindings/try, which have set
+# root, the repository's folder, and have say, a message, and stop, a message and the end with status 2.
+libraries=$root/target/library
+
+# Builds libraries/lib$1.a for this machine, if the crates have changed since it was last built. rt compiles for x86-64; on
+# another processor the same module goes through the same compiler with this machine for its target, by a kit that differs in
+# nothing but that.
+library() {
+    local machine kit made kept log status
+    [ -f "$libraries/lib$1.a" ] && [ -z "$(find "$root/crates.txt" "$root/crates" -newer "$libraries/lib$1.a" -print -quit)" ] && return
+    command -v rt >/dev/null || stop "rt is missing: it is the command of the Rattle kit, which proves and builds lib$1.a"
+    mkdir -p "$libraries" || stop "cannot write to $libraries"
+    say "building lib$1.a"
+    machine=$(uname -m)
+    kit=
+    if [ "$machine" != x86_64 ]; then
+        kit=$libraries/kit
+        own_kit "$(dirname "$(dirname "$(rt doc)")")" "$machine" "$kit"
+    fi
+    # what stands in target/staticlib/ is its user's, and stays
+    made=$root/target/staticlib/lib$1.a
+    kept=$libraries/kept.a
+    log=$libraries/$1.log
+    rm -f "$kept"
+    [ ! -f "$made" ] || mv "$made" "$kept"
+    (cd "$root" && if [ -n "$kit" ]; then export RATTLE_HOME="$kit"; fi && rt staticlib "$1") >"$log" 2>&1
+    status=$?
+    [ $status -ne 0 ] || mv "$made" "$libraries/lib$1.a"
+    [ ! -f "$kept" ] || mv "$kept" "$made"
+    [ $status -eq 0 ] || { tail -n 20 "$log" >&2; stop "lib$1.a was not built"; }
+}
+
+# $3 becomes links to all of the kit $1 but its clang, which is called for the machine $2
+own_kit() {
+    rm -rf "$3" && mkdir -p "$3/on/$2/toolchain/bin" || stop "cannot write to $3"
+    ln -s "$1"/* "$3/" 2>/dev/null
+    ln -s "$1/on/$2"/* "$3/on/$2/" 2>/dev/null
+    ln -s "$1/on/$2/toolchain"/* "$3/on/$2/toolchain/" 2>/dev/null
+    ln -s "$1/on/$2/toolchain/bin"/* "$3/on/$2/toolchain/bin/" 2>/dev/null
+    rm "$3/on/$2/toolchain/bin/clang" || stop "the kit has no clang for $2"
+    cat >"$3/on/$2/toolchain/bin/clang" <<SCRIPT
+#!/usr/bin/env bash
+words=()
+for word in "\$@"; do case \$word in --target=* | -march=* | -Werror) ;; *) words+=("\$word") ;; esac; done
+exec "$1/on/$2/toolchain/bin/clang" --target=$2-unknown-linux-gnu -Wno-override-module "\${words[@]}" 2>/dev/null
+SCRIPT
+    chmod +x "$3/on/$2/toolchain/bin/clang"
+}

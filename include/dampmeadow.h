@@ -1,0 +1,173 @@
+/* Dampmeadow: float kernels that give a number or say why not. For C (from C99) and C++.
+ *
+ * Link it with the library: target/staticlib/libdampmeadow.a, which `rt staticlib dampmeadow` builds for x86-64.
+ *
+ *   cc -I include program.c target/staticlib/libdampmeadow.a
+ *
+ * The library needs no other one, not even the C library. It keeps nothing between calls, so any number of threads may call
+ * it at once. It counts on the processor's usual float settings: rounding to nearest, and numbers too small to be normal
+ * kept as they are. (A program linked with -ffast-math may start with other settings, and then the answers are not ours.)
+ *
+ * A float goes in and comes out as its 32 bits, its "word": 4.0f is 0x40800000. dampmeadow_bits and dampmeadow_float, below,
+ * go from one to the other. Words, and not floats, because a NaN's bits may change when it is handed on as a float.
+ */
+#ifndef DAMPMEADOW_H
+#define DAMPMEADOW_H
+
+#include <stddef.h>
+#include <stdint.h>
+#include <string.h>
+
+#ifdef __cplusplus
+extern "C" {
+#endif
+
+/* ---- The operations
+ *
+ * Each kernel has a number for its guarded form. The guarded form takes what is written beside it, finite numbers only, and
+ * refuses the rest; it never answers with a NaN. "Above 0" and "not 0" leave out the numbers that are too small to be normal
+ * too: those of a size under 2^-126. The example is a guarded call and its answer.
+ *
+ * sqrt and what comes after it are estimates, as they are in micromath: quick rather than close. sqrt may be some 6 percent
+ * too large, inv 12.5, and powi gives up early, with 0 or an infinity. hypot of 3 and 4 is 5.125 here, and sqrt of 2 is 1.5.
+ */
+enum dampmeadow_operation {
+    DAMPMEADOW_TRUNC = 0x01,    /* the whole part, toward 0           |x| under 2^32              -2.5 -> -2           */
+    DAMPMEADOW_FRACT = 0x02,    /* what trunc leaves, with x's sign   |x| under 2^32              -2.5 -> -0.5         */
+    DAMPMEADOW_FLOOR = 0x03,    /* the largest whole not above x      |x| to 2^31                 -0.5 -> -1           */
+    DAMPMEADOW_CEIL = 0x04,     /* the smallest whole not below x     |x| to 2^31                 2.5 -> 3             */
+    DAMPMEADOW_ROUND = 0x05,    /* the nearest, halves away from 0    |x| under 2^23, not the     2.5 -> 3             */
+                                /*                                    magnitude 0x3effffff                             */
+    DAMPMEADOW_ABS = 0x06,      /* x without its sign                 every finite x              -2.5 -> 2.5          */
+    DAMPMEADOW_COPYSIGN = 0x07, /* x with the sign of the second      every finite x and second   2.5, -1 -> -2.5      */
+    DAMPMEADOW_SIGNUM = 0x08,   /* 1 or -1 by x's sign bit, 0 too     every finite x              -2.5 -> -1           */
+    DAMPMEADOW_SQRT = 0x09,     /* square root                        x above 0                   4 -> 2               */
+    DAMPMEADOW_INVSQRT = 0x0a,  /* 1 over the square root             x above 0                   1 -> 0.966225028     */
+    DAMPMEADOW_INV = 0x0b,      /* 1/x, the quickest                  x above 0, to 2^126         1.5 -> 0.75          */
+    DAMPMEADOW_RECIP = 0x0c,    /* 1/x, closer                        x not 0, |x| to 2^125       4 -> 0.250000119     */
+    DAMPMEADOW_EXP = 0x0d,      /* e to the x                         x from -87 to 88            1 -> 2.71828175      */
+    DAMPMEADOW_LN = 0x0e,       /* natural logarithm                  x above 0                   2 -> 0.693207741     */
+    DAMPMEADOW_POWI = 0x0f,     /* x to a whole power                 x not 0, power from         3, power 3 -> 27     */
+                                /*                                    -1048576 to 1048576                              */
+    DAMPMEADOW_POWF = 0x10,     /* x to the power n, a float          x above 0, n*ln(x) from     4, 0.5 -> 2.00006056 */
+                                /*                                    -87 to 88                                        */
+    DAMPMEADOW_ATAN = 0x11,     /* arctangent, in radians             |x| under 2^64              1 -> 0.785398185     */
+    DAMPMEADOW_ATAN2 = 0x12,    /* the angle of (x, y): y is first    the larger size from 2^-60  1, 0 -> 1.57079637   */
+                                /*                                    to 2^60                                          */
+    DAMPMEADOW_COS = 0x13,      /* cosine of radians                  |x| to 1024                 0 -> 1               */
+    DAMPMEADOW_SIN = 0x14,      /* sine of radians                    |x| to 1024                 1.57079637 -> 1      */
+    DAMPMEADOW_HYPOT = 0x15     /* length of (x, y)                   the larger size from 2^-60  3, 4 -> 5.125        */
+                                /*                                    to 2^60                                          */
+};
+
+/* Added to an operation, it asks for the raw form: DAMPMEADOW_RAW + DAMPMEADOW_SQRT. A raw form answers every word with the
+ * bits that micromath gives, a NaN and an infinity among them: raw sqrt of 0 is 0x1fc00000, and of -0 0x5fc00000.
+ */
+#define DAMPMEADOW_RAW 0x80u
+
+/* ---- The refusals
+ *
+ * Where more than one of them holds, the first in the column "looked at" is given. Raw forms are refused with 6 and 7 alone.
+ */
+enum dampmeadow_refusal {                  /* looked at    given when                                                 */
+    DAMPMEADOW_ANSWERED = 0,               /*              there is an answer                                         */
+    DAMPMEADOW_NOT_FINITE = 1,             /* third        an operand is an infinity or a NaN                         */
+    DAMPMEADOW_BLACK = 2,                  /* fourth       the first operand is 0 or too small to be normal: sqrt,    */
+                                           /*              invsqrt, inv, recip, ln, powi, powf                        */
+    DAMPMEADOW_NEGATIVE = 3,               /* fifth        the first operand's sign bit is set: sqrt, invsqrt, inv,   */
+                                           /*              ln, powf                                                   */
+    DAMPMEADOW_OUTSIDE = 4,                /* sixth        outside what the operation takes, as listed above          */
+    DAMPMEADOW_POWER_OUTSIDE = 5,          /* last         powi's power is below -1048576 or above 1048576            */
+    DAMPMEADOW_NO_SUCH_OPERATION = 6,      /* second       no operation has this number                               */
+    DAMPMEADOW_MALFORMED = 7,              /* first        the line is no frame; or, after 6 and before 1, the second */
+                                           /*              word is not used by this operation and is not 0            */
+    DAMPMEADOW_NO_ROOM = 8                 /* before all   the space for the answer has fewer than 11 bytes           */
+};
+
+/* ---- The calls */
+
+/* Calls an operation by its number.
+ *
+ * In:   op, an operation, with DAMPMEADOW_RAW added for its raw form; a, the first operand's word; b, the second's. b is 0
+ *       where the operation has one operand. powi's b is its power as a whole number: (uint32_t)-3 for -3.
+ * Back: the refusal in the high 32 bits and the answer's word in the low 32; with a refusal the word is 0. An answer of a
+ *       guarded form is never a NaN; powi's may be an infinity. Every number and all words may be asked for.
+ *
+ *   dampmeadow_words(DAMPMEADOW_SQRT, 0x40800000, 0) == 0x40000000                      sqrt of 4 is 2
+ *   dampmeadow_words(DAMPMEADOW_SQRT, 0xbf800000, 0) == 0x300000000                     sqrt of -1: refusal 3
+ *   dampmeadow_words(DAMPMEADOW_RAW + DAMPMEADOW_SQRT, 0x80000000, 0) == 0x5fc00000     what micromath gives for -0
+ */
+uint64_t dampmeadow_words(uint32_t op, uint32_t a, uint32_t b);
+
+/* The arctangent as a share of a quarter turn, guarded: from -1 to 1. It has no operation number.
+ *
+ * In:   a, the operand's word; its size is under 2^64.
+ * Back: as from dampmeadow_words; the refusals are 1 and 4.
+ *
+ *   dampmeadow_atan_norm_guarded(0x3f800000) == 0x3f000000       of 1 it is 0.5
+ *   dampmeadow_atan_norm_guarded(0x7fc00000) == 0x100000000      a NaN: refusal 1
+ */
+uint64_t dampmeadow_atan_norm_guarded(uint32_t a);
+
+/* The same, raw: any word in, the word that micromath gives back, and no refusal.
+ *
+ *   dampmeadow_atan_norm(0x3f800000) == 0x3f000000
+ *   dampmeadow_atan_norm(0x7f800000) == 0x7fc00000               of infinity it is a NaN
+ */
+uint32_t dampmeadow_atan_norm(uint32_t a);
+
+/* The bytes of an answer to a frame. */
+#define DAMPMEADOW_ANSWER_LENGTH 11
+
+/* Answers a frame, which is a line of text.
+ *
+ * In:   line and length, the line without its newline. A frame is 18 lower-case hexadecimal digits: the operation (2), the
+ *       first word (8) and the second (8), 00000000 where it is not used. Any other line may be given, an empty one too, and
+ *       is refused with 7.
+ *       space and room, where the answer is to be put and how many bytes there are. The two do not overlap, and neither
+ *       pointer is NULL.
+ * Back: the refusal, 0 where there is none. The first 11 bytes of the space then hold the refusal in two digits, the
+ *       answer's word in eight (00000000 with a refusal) and a newline; no NUL follows, and the rest of the space is left
+ *       alone. With fewer than 11 bytes of room it is refused with 8 and nothing is written.
+ *
+ *   uint8_t space[DAMPMEADOW_ANSWER_LENGTH];
+ *   dampmeadow_answer((const uint8_t *)"094080000000000000", 18, space, sizeof space) == 0     and space is 0040000000
+ *   dampmeadow_answer((const uint8_t *)"09bf80000000000000", 18, space, sizeof space) == 3     and space is 0300000000
+ */
+uint32_t dampmeadow_answer(const uint8_t *line, size_t length, uint8_t *space, size_t room);
+
+/* ---- Helpers, in this header alone */
+
+/* The word of a float: dampmeadow_bits(4.0f) == 0x40800000 */
+static inline uint32_t dampmeadow_bits(float number)
+{
+    uint32_t word;
+    memcpy(&word, &number, sizeof word);
+    return word;
+}
+
+/* The float of a word: dampmeadow_float(0x40800000) == 4.0f */
+static inline float dampmeadow_float(uint32_t word)
+{
+    float number;
+    memcpy(&number, &word, sizeof number);
+    return number;
+}
+
+/* The refusal of a call, 0 where it answered: dampmeadow_refusal_of(0x300000000) == DAMPMEADOW_NEGATIVE */
+static inline uint32_t dampmeadow_refusal_of(uint64_t answer)
+{
+    return (uint32_t)(answer >> 32);
+}
+
+/* The word of a call's answer: dampmeadow_word_of(0x40000000) == 0x40000000 */
+static inline uint32_t dampmeadow_word_of(uint64_t answer)
+{
+    return (uint32_t)(answer & 0xffffffffu);
+}
+
+#ifdef __cplusplus
+}
+#endif
+
+#endif
