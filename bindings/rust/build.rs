@@ -53,9 +53,9 @@ fn folder() -> Result<PathBuf, String> {
     let faults = faults.join("; ");
     if processor != "x86_64" {
         return Err(format!(
-            "{faults}. rt builds it for x86-64 alone, and this build is for {processor}: on a {processor} machine run \
-             bindings/try once, which has it built for that machine in target/library, or set DAMPMEADOW_LIB_DIR to a \
-             folder that holds a {LIBRARY} for {processor}"
+            "{faults}. rt builds it for x86-64 alone, and this build is for {processor}: run bindings/try once on such a machine, \
+             which has it built for that in target/library, or set DAMPMEADOW_LIB_DIR to a folder that holds a {LIBRARY} for \
+             {processor}"
         ));
     }
     build(&root).map_err(|why| format!("{faults}. {why}"))?;
