@@ -1,6 +1,7 @@
 // The run on the bench: frames from standard input, their answers to standard output, one a line in
 // their order. It holds a buffer of 65,536 bytes for what is read, another for what is written, and
-// the first 19 bytes of the line begun, whatever the input is.
+// the first 19 bytes of the line begun, whatever the input is. The programs `frames` and `vectors`
+// stand on it.
 use libc::STDIN_FILENO;
 use libc::STDOUT_FILENO;
 use lines::Lines;

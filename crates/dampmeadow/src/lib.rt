@@ -1,4 +1,4 @@
-// The exported calls, for C and Rust.
+// The exported calls, for C and Rust. The static library is built from it; no crate stands on it.
 ghost use mathlib.Core.Path.{_≡_};
 ghost use Rattle.float.specs.Engine.{ieee};
 ghost use Rattle.float.specs.Atan.{atanNormWord};

@@ -1,4 +1,5 @@
-// A frame on the bench: a line of text and the eleven bytes that answer it.
+// A frame on the bench: a line of text and the eleven bytes that answer it. `lines` and the exported
+// calls of `dampmeadow` stand on it.
 ghost use mathlib.Core.Path.{_≡_};
 ghost use mathlib.Core.Bool.{true};
 ghost use Prim.Native.Nat.{ℕ, _+_, _*_, _-_, _/_, _%_, _^_, _≤_, _<_};

@@ -1,4 +1,5 @@
 // Lines out of chunks: the answer to each line of an input, in its turn, however the input is cut.
+// `bench` feeds it what it reads.
 ghost use mathlib.Core.Path.{_≡_};
 ghost use lib.ListN.{take};
 ghost use Rattle.frame.specs.Frame.{left};

@@ -1,5 +1,5 @@
 // Exported calls for the comparison alone: the casts and helpers of `float`, which the crate keeps
-// to itself and no frame reaches.
+// to itself and no frame reaches. No crate stands on it.
 ghost use mathlib.Core.Path.{_≡_};
 ghost use mathlib.Core.Bool.{Bool, cond};
 ghost use Prim.Native.Nat.{_+_, _%_, _^_};
