@@ -1,5 +1,6 @@
-# Builds libraries of this repository for the machine that it runs on. Sourced by compare/run and bindings/try, which have set
-# root, the repository's folder, and have say, a message, and stop, a message and the end with status 2.
+# Builds libraries of this repository for the machine that it runs on. Sourced by compare/run, bindings/try and
+# examples/specks/run, which have set root, the repository's folder, and have say, a message, and stop, a message and the end
+# with status 2.
 libraries=$root/target/library
 
 # Builds libraries/lib$1.a for this machine, if the crates have changed since it was last built. rt compiles for x86-64; on
@@ -23,7 +24,7 @@ library() {
     log=$libraries/$1.log
     rm -f "$kept"
     [ ! -f "$made" ] || mv "$made" "$kept"
-    (cd "$root" && if [ -n "$kit" ]; then export RATTLE_HOME="$kit"; fi && rt staticlib "$1") >"$log" 2>&1
+    (cd "$root" && if [ -n "$kit" ]; then export RATTLE_HOME="$kit"; fi && rt staticlib "$1") </dev/null >"$log" 2>&1
     status=$?
     [ $status -ne 0 ] || mv "$made" "$libraries/lib$1.a"
     [ ! -f "$kept" ] || mv "$kept" "$made"
