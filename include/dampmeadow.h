@@ -99,7 +99,7 @@ enum dampmeadow_refusal {                  /* looked at    given when           
  */
 uint64_t dampmeadow_words(uint32_t op, uint32_t a, uint32_t b);
 
-/* The arctangent as a share of a quarter turn, guarded: from -1 to 1. It has no operation number.
+/* The arctangent as a share of a quarter turn, guarded. It has no operation number.
  *
  * In:   a, the operand's word; its size is under 2^64.
  * Back: as from dampmeadow_words; the refusals are 1 and 4.

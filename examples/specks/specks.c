@@ -12,14 +12,9 @@
  * refused as not finite in blue and what was refused for its two differences of 0 in pale yellow.
  * Exit status: 0 every speck was found and nothing else, 1 not so, 2 it could not be run.
  */
-#include <stdint.h>
 #include <stdio.h>
-#include <string.h>
+#include "dampmeadow.h"
 
-/* A refusal in the high 32 bits, 0 where there is none, and the answer's word in the low 32. */
-uint64_t dampmeadow_words(uint32_t op, uint32_t a, uint32_t b);
-
-enum { ATAN2 = 0x12, HYPOT = 0x15, RAW_ATAN2 = 0x92 };
 enum { WIDE = 96, HIGH = 64, NEAR = 3, REFUSALS = 9 };
 
 static const float STRONG = 14.0f;  /* grey levels a pixel; the grain stays below it */
@@ -31,8 +26,6 @@ static float direction[HIGH][WIDE]; /* radians; 0 points right, a quarter turn d
 static int refused[HIGH][WIDE];     /* the refusal, 0 where answered */
 static int marked[HIGH][WIDE];      /* 0, or the number of its speck */
 
-static uint32_t bits(float x) { uint32_t w; memcpy(&w, &x, sizeof w); return w; }
-static float number(uint32_t w) { float x; memcpy(&x, &w, sizeof x); return x; }
 
 /* ---- the picture ---- */
 
@@ -84,15 +77,15 @@ static void make_picture(void)
 
 static int score(int x, int y)
 {
-    uint32_t across = bits((scan[y][x + 1] - scan[y][x - 1]) / 2);
-    uint32_t down = bits((scan[y + 1][x] - scan[y - 1][x]) / 2);
-    uint64_t how_strong = dampmeadow_words(HYPOT, across, down);
-    uint64_t which_way = dampmeadow_words(ATAN2, down, across); /* y first */
-    int refusal = (int)(how_strong >> 32);
-    if (refusal == 0) refusal = (int)(which_way >> 32);
+    uint32_t across = dampmeadow_bits((scan[y][x + 1] - scan[y][x - 1]) / 2);
+    uint32_t down = dampmeadow_bits((scan[y + 1][x] - scan[y - 1][x]) / 2);
+    uint64_t how_strong = dampmeadow_words(DAMPMEADOW_HYPOT, across, down);
+    uint64_t which_way = dampmeadow_words(DAMPMEADOW_ATAN2, down, across); /* y first */
+    int refusal = (int)dampmeadow_refusal_of(how_strong);
+    if (refusal == 0) refusal = (int)dampmeadow_refusal_of(which_way);
     if (refusal == 0) {
-        strength[y][x] = number((uint32_t)how_strong);
-        direction[y][x] = number((uint32_t)which_way);
+        strength[y][x] = dampmeadow_float(dampmeadow_word_of(how_strong));
+        direction[y][x] = dampmeadow_float(dampmeadow_word_of(which_way));
     }
     return refusal;
 }
@@ -201,7 +194,8 @@ int main(int argc, char **argv)
     for (int i = 0; i < DUST; i++) missed += hit[i] == 0, twice += hit[i] > 1;
     printf("%6d  specks found, %d put in, %d missed, %d where there is none\n", found, DUST, missed, astray);
     printf("Raw atan2 of two zeros is %08x, a NaN; guarded, it is refused with %d.\n",
-           (unsigned)dampmeadow_words(RAW_ATAN2, 0, 0), (int)(dampmeadow_words(ATAN2, 0, 0) >> 32));
+           (unsigned)dampmeadow_word_of(dampmeadow_words(DAMPMEADOW_RAW + DAMPMEADOW_ATAN2, 0, 0)),
+           (int)dampmeadow_refusal_of(dampmeadow_words(DAMPMEADOW_ATAN2, 0, 0)));
 
     if (!write_picture(argv[1], "specks.pgm", 0) || !write_picture(argv[1], "marked.ppm", 1)) return 2;
     return missed || twice || astray;

@@ -99,7 +99,7 @@ pub fn guarded(op: Operation, a: u32, b: u32) -> Result<f32, Refusal> {
     call(op.number(), a, b).map(f32::from_bits)
 }
 
-/// The arctangent as a share of a quarter turn, from -1 to 1, guarded. Takes |x| under 2^64. It has no operation number.
+/// The arctangent as a share of a quarter turn, guarded. Takes |x| under 2^64. It has no operation number.
 ///
 /// ```
 /// use dampmeadow::{atan_norm, Refusal};
