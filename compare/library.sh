@@ -20,9 +20,10 @@ library() {
     fi
     # what stands in target/staticlib/ is its user's, and stays
     made=$root/target/staticlib/lib$1.a
-    kept=$libraries/kept.a
+    kept=$libraries/kept.lib$1.a
     log=$libraries/$1.log
-    rm -f "$kept"
+    # an interrupted build may have left it put aside
+    [ ! -f "$kept" ] || [ -f "$made" ] || mv "$kept" "$made"
     [ ! -f "$made" ] || mv "$made" "$kept"
     (cd "$root" && if [ -n "$kit" ]; then export RATTLE_HOME="$kit"; fi && rt staticlib "$1") </dev/null >"$log" 2>&1
     status=$?
