@@ -36,6 +36,14 @@ fn lines(reader: &Reader, seed: u64, count: usize) -> Vec<u8> {
     joined(&all)
 }
 
+/// Short lines: what is read at once has more of them than there is room for answers to.
+fn short() -> Vec<Vec<u8>> {
+    const GOOD: &str = "094080000000000000\n";
+    let mut random = Random::new(7);
+    let mixed = (0..200_000).flat_map(|_| GOOD.as_bytes()[GOOD.len() - 1 - [0, 0, 0, 1, 2, 18][random.below(6)]..].to_vec()).collect();
+    vec!["\n".repeat(200_000).into_bytes(), format!("{}{GOOD}", "\n".repeat(5_957)).into_bytes(), format!("{}{GOOD}", "\n".repeat(5_958)).into_bytes(), mixed]
+}
+
 /// Whole inputs that differ in how they end.
 fn endings() -> Vec<Vec<u8>> {
     const GOOD: &str = "094080000000000000";
@@ -126,6 +134,7 @@ pub fn compare(reader: &Reader, program: &str) -> io::Result<bool> {
     let sets = [
         ("as fast as it reads", vec![lines(reader, 1, 1_000_000)], Feed::Whole),
         ("inputs of a few lines", endings(), Feed::Whole),
+        ("short lines", short(), Feed::Whole),
         ("one byte at a time", vec![lines(reader, 2, 1_500)], Feed::Pieces(&[1])),
         ("in odd pieces", vec![lines(reader, 3, 60_000)], Feed::Pieces(&[1, 2, 3, 7, 17, 18, 19, 20, 37, 255, 1_021, 4_095, 4_096, 4_097])),
     ];

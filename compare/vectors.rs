@@ -8,7 +8,10 @@ use crate::reader::{written, Reader};
 use std::io;
 use std::path::Path;
 
-const FRAMES: usize = 20_000;
+const FRAMES: usize = 26_500;
+
+/// More short lines in a row than a program has room for the answers to, and so few bytes that one read brings them all.
+const SHORT: usize = 6_500;
 
 /// Document 01's whole run, its worked examples of the raw form, and what it pins where runs skip the crate: each line with
 /// its answer as the document gives it.
@@ -116,6 +119,11 @@ fn edges(reader: &Reader) -> Vec<Vec<u8>> {
     reader.known().into_iter().flat_map(|(op, kernel)| edges::words_of(kernel.name).into_iter().map(move |(a, b)| frame(op, a, b))).collect()
 }
 
+/// Lines of no byte or one, in a row.
+fn short() -> Vec<Vec<u8>> {
+    (0..SHORT).map(|i| if i % 7 == 3 { b"0".to_vec() } else { Vec::new() }).collect()
+}
+
 /// The whole list. Random words of every operation in turn fill it.
 fn list(reader: &Reader) -> Vec<Vec<u8>> {
     let mut list = Vec::new();
@@ -123,7 +131,7 @@ fn list(reader: &Reader) -> Vec<Vec<u8>> {
         assert_eq!(written(reader.answer(line.as_bytes())), format!("{answer}\n").as_bytes(), "the reader at {line:?}");
         list.push(line.as_bytes().to_vec());
     }
-    list.extend([malformed(), unknown(reader), unused(reader), edges(reader)].concat());
+    list.extend([short(), malformed(), unknown(reader), unused(reader), edges(reader)].concat());
     let mut random = Lines::new(reader, 11);
     for (op, kernel) in reader.known().into_iter().cycle().take(FRAMES - list.len()) {
         list.push(random.of(op, kernel.takes));
