@@ -1,1 +1,2 @@
 -- What belongs to no one function.
+mod Chunk

@@ -2,6 +2,11 @@
 // their order. It holds a buffer of 65,536 bytes for what is read, another for what is written, and
 // the first 19 bytes of the line begun, whatever the input is. The programs `frames` and `vectors`
 // stand on it.
+ghost use Prim.Native.Nat.{_≤_};
+ghost use mathlib.Core.Path.{_≡_};
+ghost use mathlib.Core.Bool.{false};
+ghost use lib.ListN.{length};
+ghost use Rattle.bench.specs.Chunk.{Steps, Answers};
 use libc::STDIN_FILENO;
 use libc::STDOUT_FILENO;
 use lines::Lines;
@@ -57,7 +62,9 @@ fn turn(lines: Lines) -> State {
 }
 
 // Answers a chunk, as much of it at a time as there is room for the answers.
-fn answered(lines: Lines, chunk: &[u8]) -> State {
+fn answered(lines: Lines, chunk: &[u8]) -> State
+    ensures { λ r. ⌜ Answers lines (now (chunk .entry)) r ⌝ }
+{
     let mut begun = lines;
     let mut left = chunk.len();
     while left > 0 {
@@ -66,14 +73,7 @@ fn answered(lines: Lines, chunk: &[u8]) -> State {
         if !done.is_written {
             return stopped(begun);
         }
-        let read = done.read;
-        if read == 0 {
-            return stopped(begun);
-        }
-        if read > left {
-            return stopped(begun);
-        }
-        left -= read;
+        left -= done.read;
     }
     State {
         lines: begun,
@@ -81,7 +81,9 @@ fn answered(lines: Lines, chunk: &[u8]) -> State {
     }
 }
 
-fn stopped(lines: Lines) -> State {
+fn stopped(lines: Lines) -> State
+    ensures { λ r. ⌜ r .«goes_on» ≡ false ⌝ }
+{
     State {
         lines,
         goes_on: false,
@@ -89,14 +91,10 @@ fn stopped(lines: Lines) -> State {
 }
 
 // Answers what it can of the last bytes of a chunk.
-fn step(lines: Lines, chunk: &[u8], left: usize) -> Done {
-    if left > chunk.len() {
-        return Done {
-            lines,
-            read: 0,
-            is_written: false,
-        };
-    }
+fn step(lines: Lines, chunk: &[u8], left: usize) -> Done
+    requires { ⌜ left ≤ length (now chunk) ⌝ }
+    ensures { λ r. ⌜ Steps lines (now (chunk .entry)) left r ⌝ }
+{
     let at = chunk.len() - left;
     let mut out = io::large_buffer();
     let fed = lines.feed(&chunk[at..], &mut out);

@@ -1,0 +1,2 @@
+-- What is done with the bytes of a read.
+pub mod Chunk
