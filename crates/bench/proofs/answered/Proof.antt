@@ -1,5 +1,6 @@
 -- `bench::answered` meets its contract: what is held is what the bytes answered so far leave, and each step leaves fewer. Assumes nothing.
 use borrow.Author.Needs.{needs}
+use native.Mathlib.Omega.{arith}
 use mathlib.Core.Path.{sym, _∙_}
 use mathlib.Core.Bool.{false≢true}
 use Rattle.bench.proofs.Chunk.{Begun, at-first, at-last, not-past, fewer, onward}
@@ -27,7 +28,7 @@ answered-spec =
     not-past _ _ _ _ _ (stepped .before .before .loop .inv) (stepped .step .ensures))
     (λ c.
     let stepped = c .before .before .before .before in
-    fewer _ _ _ _ _ (stepped .before .before .loop .inv) (stepped .step .ensures) (stepped .before .loop-test .taken))
+    fewer _ _ _ _ _ (stepped .before .before .loop .inv) (stepped .step .ensures) (omega (arith, stepped .before .loop-test .taken)))
     (λ c.
     let stepped = c .before .before .before .before in
     onward _ _ _ _ _ (stepped .before .before .loop .inv) (stepped .step .ensures))
