@@ -3,6 +3,7 @@
 use crate::gates::Gate;
 use crate::sweep::{Count, Trial};
 use micromath::{helpers, F32};
+use std::f32::consts;
 
 #[link(name = "dampmeadow", kind = "static")]
 extern "C" {
@@ -23,6 +24,7 @@ extern "C" {
     fn probe_set_exponent(a: u32, n: i32) -> u32;
     fn probe_is_integer(a: u32) -> bool;
     fn probe_is_even(a: u32) -> bool;
+    fn probe_constant(place: u32) -> u32;
 }
 
 /// The call by number, with its refusal still in the high half.
@@ -209,7 +211,19 @@ pub fn guarded() -> Vec<Kernel> {
     raw().into_iter().map(|k| Kernel { call: call(k.call), agree: Agree::Guarded(Gate::of(k.name)), skips: |_, _| false, ..k }).collect()
 }
 
-/// The casts and the helpers.
+/// The number type's constants in the order of the probe, Rust's own where it has them; past their end a 0.
+const CONSTANTS: [u32; 18] = {
+    let floats = [0.0, 1.0, f32::EPSILON, f32::NAN, f32::INFINITY, f32::NEG_INFINITY, consts::FRAC_1_PI, consts::LN_2, consts::LOG2_E, consts::E, consts::PI, consts::FRAC_PI_2];
+    let mut all = [0, 0, 0, 0, 0, 0, 0, 0, 0, 0, 0, 0, 1 << 31, 0xff << 23, (1 << 23) - 1, 127, 23, 0];
+    let mut i = 0;
+    while i < floats.len() {
+        all[i] = floats[i].to_bits();
+        i += 1;
+    }
+    all
+};
+
+/// The casts, the helpers and the constants.
 fn helpers() -> Vec<Kernel> {
     vec![
         own!("cast to i32", One, Exact, |a, _| f(a).0 as i32 as u32, |a, _| unsafe { probe_to_i32(a) as u32 as u64 }),
@@ -222,6 +236,7 @@ fn helpers() -> Vec<Kernel> {
         own!("set exponent", Two, Exact, |a, b| helpers::set_exponent(f(a), b as i32).to_bits(), |a, b| unsafe { probe_set_exponent(a, b as i32) as u64 }),
         own!("is integer", One, Exact, |a, _| helpers::is_integer(f(a)) as u32, |a, _| unsafe { probe_is_integer(a) as u64 }),
         own!("is even", One, Exact, |a, _| helpers::is_even(f(a)) as u32, |a, _| unsafe { probe_is_even(a) as u64 }),
+        own!("constants", One, Exact, |a, _| CONSTANTS[a as usize % 18], |a, _| unsafe { probe_constant(a % 18) as u64 }),
     ]
 }
 

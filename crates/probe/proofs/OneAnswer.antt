@@ -11,6 +11,7 @@ use Rattle.probe.proofs.probe_without_sign.Reads as without-sign
 use Rattle.probe.proofs.probe_set_exponent.Reads as set-exponent
 use Rattle.probe.proofs.probe_is_integer.Reads as is-integer
 use Rattle.probe.proofs.probe_is_even.Reads as is-even
+use Rattle.probe.proofs.probe_constant.Reads as constant
 
 module _ (κs : Lfts 0) where
   pub probe-to-i32 : OneAnswer (to-i32.Post κs) (λ r x. r)
@@ -42,3 +43,6 @@ module _ (κs : Lfts 0) where
 
   pub probe-is-even : OneAnswer (is-even.Post κs) (λ r x. r)
   probe-is-even = pinned _ (λ a r x p. p)
+
+  pub probe-constant : OneAnswer (constant.Post κs) (λ r x. r)
+  probe-constant = pinned _ (λ a r x p. p)

@@ -9,6 +9,8 @@ ghost use mir.Val.{ofZ, toZ};
 ghost use mir.Syntax.{w32};
 ghost use Rattle.format.specs.Fields.{exponent, magnitude};
 ghost use Rattle.format.specs.Exponent.{exponentValue, setExponentWord, isIntegerWord, isEvenWord};
+ghost use lib.ListN.{getD};
+ghost use Rattle.probe.specs.Constants.{constants};
 use float::F32;
 
 #[no_mangle]
@@ -80,4 +82,34 @@ pub extern "C" fn probe_is_even(a: u32) -> bool
     ensures { λ r. ⌜ r ≡ isEvenWord binary32 a ⌝ }
 {
     F32(a).is_even()
+}
+
+// The constants of the number type, by their places in the definition's list, and 0 past its end.
+#[no_mangle]
+pub extern "C" fn probe_constant(place: u32) -> u32
+    ensures { λ r. ⌜ r ≡ getD constants place 0 ⌝ }
+{
+    let all = [
+        F32::ZERO.0,
+        F32::ONE.0,
+        F32::EPSILON.0,
+        F32::NAN.0,
+        F32::INFINITY.0,
+        F32::NEG_INFINITY.0,
+        F32::FRAC_1_PI.0,
+        F32::LN_2.0,
+        F32::LOG2_E.0,
+        F32::E.0,
+        F32::PI.0,
+        F32::FRAC_PI_2.0,
+        F32::SIGN_MASK,
+        F32::EXPONENT_MASK,
+        F32::MANTISSA_MASK,
+        F32::EXPONENT_BIAS,
+        F32::MANTISSA_BITS,
+    ];
+    if place < 17 {
+        return all[place as usize];
+    }
+    0
 }
