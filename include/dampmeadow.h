@@ -14,6 +14,10 @@
 #ifndef DAMPMEADOW_H
 #define DAMPMEADOW_H
 
+#if !defined(__cplusplus) && (!defined(__STDC_VERSION__) || __STDC_VERSION__ < 199901L)
+#error "dampmeadow.h needs C99 or later: compile with -std=c99"
+#endif
+
 #include <stddef.h>
 #include <stdint.h>
 #include <string.h>
@@ -29,7 +33,9 @@ extern "C" {
  * too: those of a size under 2^-126. The example is a guarded call and its answer.
  *
  * sqrt and what comes after it are estimates, as they are in micromath: quick rather than close. sqrt may be some 6 percent
- * too large, inv 12.5, and powi gives up early, with 0 or an infinity. hypot of 3 and 4 is 5.125 here, and sqrt of 2 is 1.5.
+ * too large and inv 12.5; hypot of 3 and 4 is 5.125 here, and sqrt of 2 is 1.5. A power of powi that is too large is an
+ * infinity, and of an x under 0.5 in size it gives up early, with 0 or an infinity: 0.4 to 75 is 0. The ln(x) that powf's
+ * gate speaks of is this library's own, and the product is rounded.
  */
 enum dampmeadow_operation {
     DAMPMEADOW_TRUNC = 0x01,    /* the whole part, toward 0           |x| under 2^32              -2.5 -> -2           */
@@ -61,7 +67,9 @@ enum dampmeadow_operation {
 };
 
 /* Added to an operation, it asks for the raw form: DAMPMEADOW_RAW + DAMPMEADOW_SQRT. A raw form answers every word with the
- * bits that micromath gives, a NaN and an infinity among them: raw sqrt of 0 is 0x1fc00000, and of -0 0x5fc00000.
+ * bits that micromath gives, a NaN and an infinity among them: raw sqrt of 0 is 0x1fc00000, and of -0 0x5fc00000. Where
+ * micromath leaves the bits open (a NaN that arithmetic makes, exp of a NaN) or does not end (powi to -2^31) they are settled
+ * here; docs/DIFFERENCES.md has the three.
  */
 #define DAMPMEADOW_RAW 0x80u
 

@@ -1,8 +1,9 @@
 //! Finds libdampmeadow.a for the processor that is compiled for, or builds it with `rt`, or says what is missing.
 //!
-//! It is looked for in the folder DAMPMEADOW_LIB_DIR, where that is set, and nowhere else then. Else in the repository's
-//! target/staticlib, where `rt staticlib dampmeadow` writes it for x86-64, and in target/library, where bindings/try puts one
-//! for the machine that it runs on. One that is older than the crates it is built from is not taken.
+//! It is looked for in the folder DAMPMEADOW_LIB_DIR, where that is set and not empty, and nowhere else then. Else in the
+//! repository's target/staticlib, where `rt staticlib dampmeadow` writes it for x86-64, and in target/library, where
+//! bindings/try puts one for the machine that it runs on. One that is older than the crates it is built from is not taken. To
+//! build it is to prove it first, which takes a minute or two.
 
 use std::path::{Path, PathBuf};
 use std::process::{exit, Command};
@@ -30,11 +31,12 @@ fn main() {
 /// The folder that holds the library.
 fn folder() -> Result<PathBuf, String> {
     let processor = env::var("CARGO_CFG_TARGET_ARCH").unwrap_or_default();
-    if let Some(given) = env::var_os("DAMPMEADOW_LIB_DIR") {
-        let given = PathBuf::from(given);
+    if let Some(given) = env::var_os("DAMPMEADOW_LIB_DIR").filter(|given| !given.is_empty()) {
+        // a build script runs in its own crate's folder, which is not where the user stands
+        let given = env::current_dir().unwrap_or_default().join(given);
         return match fault(&given, &processor, None) {
             None => Ok(given),
-            Some(fault) => Err(format!("DAMPMEADOW_LIB_DIR: {fault}")),
+            Some(fault) => Err(format!("DAMPMEADOW_LIB_DIR, which is best a path from the root: {fault}")),
         };
     }
 
@@ -68,6 +70,7 @@ fn folder() -> Result<PathBuf, String> {
 /// The repository that this folder stands in as bindings/rust.
 fn repository() -> Result<PathBuf, String> {
     let here = PathBuf::from(env::var_os("CARGO_MANIFEST_DIR").unwrap_or_default());
+    let here = here.canonicalize().unwrap_or(here);
     match here.ancestors().nth(2) {
         Some(root) if root.join("crates/dampmeadow").is_dir() => Ok(root.to_path_buf()),
         _ => Err(format!(
@@ -80,6 +83,12 @@ fn repository() -> Result<PathBuf, String> {
 
 /// Proves and builds the library, for x86-64.
 fn build(root: &Path) -> Result<(), String> {
+    let target = root.join("target");
+    let trial = target.join("staticlib.trial");
+    fs::create_dir_all(&target)
+        .and_then(|()| fs::write(&trial, ""))
+        .and_then(|()| fs::remove_file(&trial))
+        .map_err(|why| format!("{} cannot be written to, where the library is built: {why}", target.display()))?;
     let run = Command::new("rt").args(["staticlib", "dampmeadow"]).current_dir(root).output();
     let run = run.map_err(|why| match why.kind() {
         io::ErrorKind::NotFound => format!(

@@ -1,5 +1,4 @@
-//! Each kernel guarded, by name: floats in, and a number that is never a NaN or a refusal out. A NaN or an infinity is refused
-//! with [`Refusal::NotFinite`] by all of them. "Above 0" and "not 0" leave out the numbers that are too small to be normal.
+//! Each kernel guarded, by name: floats in, and a number that is never a NaN or a refusal out.
 
 use crate::{guarded, Operation, Refusal};
 
@@ -160,21 +159,22 @@ pub fn ln(x: f32) -> Result<f32, Refusal> {
     guarded(Operation::Ln, x.to_bits(), 0)
 }
 
-/// x to a whole power. Takes x that is not 0 and a power from -1048576 to 1048576. It gives up early on large and small
-/// results, with an infinity or 0.
+/// x to a whole power. Takes x that is not 0 and a power from -1048576 to 1048576. A power that is too large is an infinity. Of
+/// an x under 0.5 in size it gives up early, with 0, or with an infinity where the power is negative: 0.4 to 75 is 0 here.
 ///
 /// ```
 /// use dampmeadow::{powi, Refusal};
 /// assert_eq!(powi(3.0, 3), Ok(27.0));
 /// assert_eq!(powi(2.0, -1), Ok(0.5));
 /// assert_eq!(powi(3.0, 128), Ok(f32::INFINITY));
+/// assert_eq!(powi(0.4, 75), Ok(0.0));
 /// assert_eq!(powi(3.0, 1_048_577), Err(Refusal::PowerOutside));
 /// ```
 pub fn powi(x: f32, n: i32) -> Result<f32, Refusal> {
     guarded(Operation::Powi, x.to_bits(), n as u32)
 }
 
-/// x to the power n. Takes x above 0, where n·ln(x) is from -87 to 88.
+/// x to the power n. Takes x above 0, where n times this library's [`ln`] of x, rounded, is from -87 to 88.
 ///
 /// ```
 /// use dampmeadow::{powf, Refusal};

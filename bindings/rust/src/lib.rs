@@ -15,11 +15,17 @@
 //! assert_eq!(edge(0.0, 0.0), Err(Refusal::Outside));
 //! ```
 //!
-//! The kernels are those of micromath, to the bit: quick estimates, some of them percents off. [`raw`] gives what micromath
-//! gives for every word, NaN and infinity among them. [`call`] takes any operation by its number, and [`answer`] a frame, which
-//! is a line of text. Nothing is kept between calls, so they may be made from any thread.
+//! Each says what it takes. An infinity or a NaN is refused by all of them with [`Refusal::NotFinite`]. "Above 0" and "not 0"
+//! leave out the numbers that are too small to be normal, those of a size under 2^-126: they count as 0, and are refused with
+//! [`Refusal::Black`].
 //!
-//! The build script says where the library is looked for and what is missing where it is not found.
+//! The kernels are those of micromath, to the bit: quick estimates, some of them percents off. [`raw`] gives what micromath
+//! gives for every word, NaN and infinity among them, but for three cases that docs/DIFFERENCES.md lists. [`call`] takes any
+//! operation by its number, and [`answer`] a frame, which is a line of text. Nothing is kept between calls, so they may be made
+//! from any thread.
+//!
+//! The build script finds the library, or proves and builds it, which takes a minute or two the first time; where it cannot, it
+//! says what is missing.
 
 #![no_std]
 #![deny(unsafe_op_in_unsafe_fn)]

@@ -9,26 +9,47 @@
 #[derive(Clone, Copy, Debug, PartialEq, Eq, Hash)]
 #[repr(u32)]
 pub enum Operation {
+    /// The whole part, toward 0: [`trunc`](crate::trunc).
     Trunc = 0x01,
+    /// What trunc leaves: [`fract`](crate::fract).
     Fract = 0x02,
+    /// The largest whole number that is not above: [`floor`](crate::floor).
     Floor = 0x03,
+    /// The smallest whole number that is not below: [`ceil`](crate::ceil).
     Ceil = 0x04,
+    /// The nearest whole number: [`round`](crate::round).
     Round = 0x05,
+    /// The number without its sign: [`abs`](crate::abs).
     Abs = 0x06,
+    /// The number with the second one's sign: [`copysign`](crate::copysign).
     Copysign = 0x07,
+    /// 1 with the number's sign: [`signum`](crate::signum).
     Signum = 0x08,
+    /// The square root: [`sqrt`](crate::sqrt).
     Sqrt = 0x09,
+    /// 1 over the square root: [`invsqrt`](crate::invsqrt).
     Invsqrt = 0x0a,
+    /// The inverse, the quickest: [`inv`](crate::inv).
     Inv = 0x0b,
+    /// The inverse, closer: [`recip`](crate::recip).
     Recip = 0x0c,
+    /// e to a power: [`exp`](crate::exp).
     Exp = 0x0d,
+    /// The natural logarithm: [`ln`](crate::ln).
     Ln = 0x0e,
+    /// A whole power, which is the second word: [`powi`](crate::powi).
     Powi = 0x0f,
+    /// A power that is a float: [`powf`](crate::powf).
     Powf = 0x10,
+    /// The arctangent: [`atan`](crate::atan).
     Atan = 0x11,
+    /// The angle of a point, y first: [`atan2`](crate::atan2).
     Atan2 = 0x12,
+    /// The cosine: [`cos`](crate::cos).
     Cos = 0x13,
+    /// The sine: [`sin`](crate::sin).
     Sin = 0x14,
+    /// The length of a pair: [`hypot`](crate::hypot).
     Hypot = 0x15,
 }
 

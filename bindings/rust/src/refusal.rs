@@ -1,7 +1,8 @@
 use core::error::Error;
 use core::fmt::{Display, Formatter, Result};
 
-/// Why there is no answer. Where more than one holds, the first of 8, 7, 6, 1, 2, 3, 4, 5 is given.
+/// Why there is no answer. Where more than one holds, the first of these is given: 8; 7 for a line that is no frame; 6; 7 for a
+/// second word that should be 0; then 1, 2, 3, 4, 5. What it displays is the specification's wording.
 ///
 /// ```
 /// use dampmeadow::{sqrt, Refusal};
@@ -13,7 +14,7 @@ use core::fmt::{Display, Formatter, Result};
 #[derive(Clone, Copy, Debug, PartialEq, Eq, Hash)]
 #[repr(u32)]
 pub enum Refusal {
-    /// An operand is an infinity or a NaN.
+    /// An operand is an infinity or a NaN: its exponent field, E, is 255.
     NotFinite = 1,
     /// The first operand is 0, or too small to be normal: sqrt, invsqrt, inv, recip, ln, powi, powf.
     Black = 2,
@@ -63,7 +64,7 @@ impl Refusal {
 
 impl Display for Refusal {
     fn fmt(&self, out: &mut Formatter) -> Result {
-        out.write_str(match self {
+        out.pad(match self {
             Refusal::NotFinite => "a float operand has E = 255",
             Refusal::Black => "black first operand",
             Refusal::Negative => "sign bit set on the first operand",
