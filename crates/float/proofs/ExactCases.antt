@@ -24,9 +24,14 @@ rows =
     ∷ expWord 0xffc0_0000 gives 0x7f80_0000
     ∷ lnWord 0x3f80_0000 gives 0x0000_0000
     ∷ lnWord 0x3f7f_ffff gives 0x0000_0000
+    ∷ lnWord 0x0000_0000 gives 0xc2b0_0f3c
+    ∷ powiWord 0x0000_0000 (pos 0) gives 0x3f80_0000
+    ∷ powiWord 0x0000_0000 (pos 1) gives 0x0000_0000
+    ∷ powiWord 0x3f80_0000 (pos 1) gives 0x3f80_0000
     ∷ powiWord 0x4040_0000 (pos 3) gives 0x41d8_0000
     ∷ powiWord 0x4040_0000 (pos 128) gives 0x7f80_0000
     ∷ cosWord ieee 0x0000_0000 gives 0x3f80_0000
+    ∷ cosWord ieee 0x3f80_0000 gives 0x3f0a_5d25
     ∷ atanNormWord ieee 0x0000_0000 gives 0x0000_0000
     ∷ atanNormWord ieee 0x3f80_0000 gives 0x3f00_0000
     ∷ atanNormWord ieee 0xffc0_0000 gives 0x7fc0_0000
