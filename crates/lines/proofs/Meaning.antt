@@ -55,7 +55,8 @@ abbrev pub text : List (List ℕ) → List ℕ
 text [] = []
 text (l ∷ ls) = l ++ newline ∷ text ls
 
-abbrev Same : List (List ℕ) → List ℕ → Type 0
+-- they are the input, or the input with a newline at its end
+abbrev pub Same : List (List ℕ) → List ℕ → Type 0
 Same ls input = (text ls ≡ input) ⊎ (text ls ≡ input ++ newline ∷ [])
 
 same-byte : (b : ℕ) {t bs : List ℕ} → (t ≡ bs) ⊎ (t ≡ bs ++ newline ∷ [])
