@@ -5,4 +5,5 @@ pub mod Front
 pub mod Holding
 pub mod Feeding
 pub mod Runs
+pub mod Calls
 pub mod OneAnswer
