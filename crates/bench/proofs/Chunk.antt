@@ -1,17 +1,16 @@
 -- A chunk answered in steps: each step reads something, and what is held after all of them is what the whole chunk leaves. Assumes nothing.
 use Prim.Native.Nat.{ℕ, _+_, _-_, _≤_, _<_}
 use native.Mathlib.Omega.{arith}
-use mathlib.Core.Path.{_≡_, refl, sym, ap, _∙_}
-use mathlib.Core.Bool.{Bool, true, false, cond}
-use mathlib.Core.List.{List, [], _∷_, _++_}
-use lib.Dec.{eqb}
-use lib.ListN.{length, take, length-take, length-drop}
+use mathlib.Core.Path.{_≡_, sym, ap, _∙_}
+use mathlib.Core.Bool.{Bool}
+use mathlib.Core.List.{List}
+use lib.ListN.{length, take, length-drop}
 use lib.Seq.{take-all, take-add}
 use Rattle.lines.specs.declared.Lines.{Lines}
 use Rattle.lines.specs.declared.Fed.{Fed}
-use Rattle.lines.specs.Lines.{newline}
-use Rattle.lines.specs.Held.{after, ended, pushed, front, Feeds}
-use Rattle.lines.proofs.Front.{begins, goes-on}
+use Rattle.lines.specs.Held.{after, front, Feeds}
+use Rattle.lines.proofs.Holding.{after-cut}
+use Rattle.lines.proofs.Front.{begins, no-further, goes-on}
 use Rattle.bench.specs.declared.Done.{Done}
 use Rattle.bench.specs.Chunk.{room, rest, Steps}
 
@@ -26,16 +25,6 @@ stepped s chunk left out out′ r w l f = record { read = f .read ∙ ap length 
 
     same : front (length out) (take (length chunk - (length chunk - left)) (rest chunk left)) ≡ front room (rest chunk left)
     same = rw (part, sym l)
-
--- what is held after some bytes and then others
-after-append : (s : Lines) (a b : List ℕ) → after s (a ++ b) ≡ after (after s a) b
-after-append s [] b = refl
-after-append s (x ∷ a) b = go (eqb x newline) (after-append (ended s) a b) (after-append (pushed s x) a b)
-  where
-    go : (t : Bool) → after (ended s) (a ++ b) ≡ after (after (ended s) a) b → after (pushed s x) (a ++ b) ≡ after (after (pushed s x) a) b
-        → cond t (after (ended s) (a ++ b)) (after (pushed s x) (a ++ b)) ≡ after (cond t (after (ended s) a) (after (pushed s x) a)) b
-    go true e k = e
-    go false e k = k
 
 -- ---- between two steps
 
@@ -55,7 +44,7 @@ module _ (s₀ : Lines) (chunk : List ℕ) (left : ℕ) (s : Lines) (r : Done) (
   long = omega (arith, b .within, length-drop (length chunk - left) chunk)
 
   pub not-past : r .read ≤ left
-  not-past = omega (arith, f .read, long, ap length (begins room (rest chunk left)), length-take (length (front room (rest chunk left))) (rest chunk left))
+  not-past = omega (arith, f .read, long, no-further room (rest chunk left))
 
   pub fewer : 0 < left → left - r .read < left
   fewer k = omega (arith, f .read, goes-on room (rest chunk left) (omega arith) (omega (arith, long)))
@@ -68,7 +57,7 @@ module _ (s₀ : Lines) (chunk : List ℕ) (left : ℕ) (s : Lines) (r : Done) (
         f .lines
         ∙ ap (after s) (begins room (rest chunk left) ∙ ap (λ (n : ℕ). take n (rest chunk left)) (sym (f .read)))
         ∙ ap (λ (l : Lines). after l (take (r .read) (rest chunk left))) (b .lines)
-        ∙ sym (after-append s₀ (take (length chunk - left) chunk) (take (r .read) (rest chunk left)))
+        ∙ sym (after-cut s₀ (take (length chunk - left) chunk) (take (r .read) (rest chunk left)))
         ∙ ap (after s₀) (sym (take-add (length chunk - left) (r .read) chunk))
         ∙ ap (λ (n : ℕ). after s₀ (take n chunk)) place;
   }

@@ -75,6 +75,9 @@ stopping p (byte {b} n r) k = let s = stopping (p ++ b ∷ []) r (omega arith) i
 pub begins : (room : ℕ) (c : List ℕ) → front room c ≡ take (length (front room c)) c
 begins room c = taken (reads room c)
 
+pub no-further : (room : ℕ) (c : List ℕ) → length (front room c) ≤ length c
+no-further room c = not-past (reads room c)
+
 -- the answers to it fit; p is the line begun before
 pub fits : (p : List ℕ) (room : ℕ) (c : List ℕ) → length (completed p (front room c)) * 11 ≤ room
 fits p room c = fitting p (reads room c)
@@ -96,7 +99,7 @@ stops p room c = stopping p (reads room c)
 
 module _ (s : Lines) (chunk space : List ℕ) (r : Fed) (space′ : List ℕ) (f : Feeds s chunk space r space′) where
   pub read-within : r .read ≤ length chunk
-  read-within = omega (arith, f .read, not-past (reads (length space) chunk))
+  read-within = omega (arith, f .read, no-further (length space) chunk)
 
   pub written-within : r .written ≤ length space
   written-within =

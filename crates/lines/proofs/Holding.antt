@@ -63,6 +63,16 @@ after-holds p s (b ∷ bs) h = go (eqb b newline) (after-holds [] (ended s) bs (
     go true a b = a
     go false a b = b
 
+-- what is held after some bytes and then others
+pub after-cut : (s : Lines) (a b : List ℕ) → after s (a ++ b) ≡ after (after s a) b
+after-cut s [] b = refl
+after-cut s (x ∷ a) b = go (eqb x newline) (after-cut (ended s) a b) (after-cut (pushed s x) a b)
+  where
+    go : (t : Bool) → after (ended s) (a ++ b) ≡ after (after (ended s) a) b → after (pushed s x) (a ++ b) ≡ after (after (pushed s x) a) b
+        → cond t (after (ended s) (a ++ b)) (after (pushed s x) (a ++ b)) ≡ after (cond t (after (ended s) a) (after (pushed s x) a)) b
+    go true e k = e
+    go false e k = k
+
 -- a line has the answer of what is held of it
 pub same-answer : (p : List ℕ) (s : Lines) → Holds p s → answerBytes (lineOf s) ≡ answerBytes p
 same-answer p s h = go (ltb (length p) 19) refl
