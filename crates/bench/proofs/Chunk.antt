@@ -8,23 +8,37 @@ use lib.ListN.{length, take, length-drop}
 use lib.Seq.{take-all, take-add}
 use Rattle.lines.specs.declared.Lines.{Lines}
 use Rattle.lines.specs.declared.Fed.{Fed}
-use Rattle.lines.specs.Held.{after, front, Feeds}
+use Rattle.lines.specs.Held.{after, front, answersFrom, Feeds}
 use Rattle.lines.proofs.Holding.{after-cut}
-use Rattle.lines.proofs.Front.{begins, no-further, goes-on}
+use Rattle.lines.proofs.Front.{begins, no-further, goes-on, read-within, answers-part}
 use Rattle.bench.specs.declared.Done.{Done}
-use Rattle.bench.specs.Chunk.{room, rest, Steps}
+use Rattle.bench.specs.Chunk.{rest, Steps}
 
--- feeding the last bytes of a chunk, as they are lent, with an empty space of that room
-pub stepped : (s : Lines) (chunk : List ℕ) (left : ℕ) (out out′ : List ℕ) (r : Fed) (w : Bool) → room ≡ length out
-    → Feeds s (take (length chunk - (length chunk - left)) (rest chunk left)) out r out′
-    → Steps s chunk left (record { lines = r .lines; read = r .read; «is_written» = w })
-stepped s chunk left out out′ r w l f = record { read = f .read ∙ ap length same; lines = f .lines ∙ ap (after s) same }
-  where
-    part : take (length chunk - (length chunk - left)) (rest chunk left) ≡ rest chunk left
-    part = take-all (length chunk - (length chunk - left)) (rest chunk left) (omega (arith, length-drop (length chunk - left) chunk))
+-- ---- a step
 
-    same : front (length out) (take (length chunk - (length chunk - left)) (rest chunk left)) ≡ front room (rest chunk left)
-    same = rw (part, sym l)
+-- the last bytes of a chunk, as they are lent
+abbrev lent : List ℕ → ℕ → List ℕ
+lent chunk left = take (length chunk - (length chunk - left)) (rest chunk left)
+
+lent-is : (chunk : List ℕ) (left : ℕ) → lent chunk left ≡ rest chunk left
+lent-is chunk left = take-all (length chunk - (length chunk - left)) (rest chunk left) (omega (arith, length-drop (length chunk - left) chunk))
+
+-- feeding them
+module _ (s : Lines) (chunk : List ℕ) (left : ℕ) (out out′ : List ℕ) (r : Fed) (f : Feeds s (lent chunk left) out r out′) where
+  same : front (length out) (lent chunk left) ≡ front (length out) (rest chunk left)
+  same = rw (lent-is chunk left)
+
+  pub stepped : (w : Bool) → Steps (length out) s chunk left (record { lines = r .lines; read = r .read; «is_written» = w })
+  stepped w = record { read = f .read ∙ ap length same; lines = f .lines ∙ ap (after s) same }
+
+  pub ends-within : left ≤ length chunk → length chunk - left + r .read ≤ length chunk
+  ends-within h = omega (arith, read-within s (lent chunk left) out r out′ f, ap length (lent-is chunk left), length-drop (length chunk - left) chunk)
+
+  -- what is handed to the write: the answers to the bytes that were read
+  pub handed : take (r .written) out′ ≡ answersFrom s (take (length chunk - left + r .read - (length chunk - left)) (rest chunk left))
+  handed =
+      let count : length chunk - left + r .read - (length chunk - left) ≡ r .read = omega arith in
+      answers-part s (lent chunk left) out r out′ f ∙ rw (count, lent-is chunk left)
 
 -- ---- between two steps
 
@@ -39,15 +53,15 @@ at-first s₀ chunk = let none : length chunk - length chunk ≡ 0 = omega arith
 pub at-last : (s₀ : Lines) (chunk : List ℕ) (left : ℕ) (s : Lines) → Begun s₀ chunk left s → left ≤ 0 → s ≡ after s₀ chunk
 at-last s₀ chunk left s b e = b .lines ∙ ap (after s₀) (take-all (length chunk - left) chunk (omega (arith, e)))
 
-module _ (s₀ : Lines) (chunk : List ℕ) (left : ℕ) (s : Lines) (r : Done) (b : Begun s₀ chunk left s) (f : Steps s chunk left r) where
+module _ (room : ℕ) (s₀ : Lines) (chunk : List ℕ) (left : ℕ) (s : Lines) (r : Done) (b : Begun s₀ chunk left s) (f : Steps room s chunk left r) where
   long : length (rest chunk left) ≡ left
   long = omega (arith, b .within, length-drop (length chunk - left) chunk)
 
   pub not-past : r .read ≤ left
   not-past = omega (arith, f .read, long, no-further room (rest chunk left))
 
-  pub fewer : 0 < left → left - r .read < left
-  fewer k = omega (arith, f .read, goes-on room (rest chunk left) (omega arith) (omega (arith, long)))
+  pub fewer : 11 ≤ room → 0 < left → left - r .read < left
+  fewer h k = omega (arith, f .read, goes-on room (rest chunk left) h (omega (arith, long)))
 
   pub onward : Begun s₀ chunk (left - r .read) (r .lines)
   onward = record {

@@ -10,16 +10,12 @@ use Rattle.lines.specs.Held.{after, front}
 use Rattle.bench.specs.declared.Done.{Done}
 use Rattle.bench.specs.declared.State.{State}
 
--- the bytes of the buffer that answers are written to
-abbrev pub room : ℕ
-room = 65536
-
 -- the bytes of a chunk that are left to be answered, the last ones
 abbrev pub rest : List ℕ → ℕ → List ℕ
 rest chunk left = drop (length chunk - left) chunk
 
--- of them a step answers those that have room for their answers
-pub record Steps (s : Lines) (chunk : List ℕ) (left : ℕ) (r : Done) : Type 0 where
+-- of them a step answers those that have room for their answers, in a space of so many bytes
+pub record Steps (room : ℕ) (s : Lines) (chunk : List ℕ) (left : ℕ) (r : Done) : Type 0 where
   pub read : r .read ≡ length (front room (rest chunk left))
   pub lines : r .lines ≡ after s (front room (rest chunk left))
 

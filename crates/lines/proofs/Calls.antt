@@ -2,20 +2,17 @@
 -- input, one to a line and in order, whatever chunks and spaces were lent. Assumes nothing.
 use Prim.Native.Nat.{ℕ, _≤_}
 use mathlib.Core.Path.{_≡_, refl, sym, ap, _∙_}
-use mathlib.Core.Bool.{cond}
 use mathlib.Core.List.{List, [], _∷_, _++_}
-use borrow.Author.Tests.{le-ltb}
-use lib.ListN.{length, take, drop}
-use lib.Seq.{take-at}
+use lib.ListN.{length, take}
 use Rattle.frame.specs.Frame.{answerBytes}
 use Rattle.lines.specs.declared.Lines.{Lines}
 use Rattle.lines.specs.declared.Fed.{Fed}
 use Rattle.lines.specs.Lines.{linesOf, answers, answersOf, completed, pending, lastLine}
-use Rattle.lines.specs.Held.{fresh, Holds, after, Feeds, lastAnswer, Finishes}
+use Rattle.lines.specs.Held.{fresh, Holds, after, Feeds, Finishes}
 use Rattle.lines.proofs.Cutting.{pending-cut, answers-append, answers-cut, lines-of}
 use Rattle.lines.proofs.Holding.{fresh-holds, after-holds, from-line}
 use Rattle.lines.proofs.Front.{answers-part, holds-part}
-use Rattle.lines.proofs.Runs.{last-line}
+use Rattle.lines.proofs.Runs.{last-line, last-part}
 
 -- calls from s on, after which s′ is held: each reads the bytes that the input then begins with, and what it writes, at the front of its space, comes next
 pub data Calls : Lines → List ℕ → List ℕ → Lines → Type 0 where
@@ -38,8 +35,7 @@ pub calls-answer : {s′ : Lines} {input out space space′ : List ℕ} {n : ℕ
     → out ++ take n space′ ≡ answersOf answerBytes input
 calls-answer {s′} {input} {out} {space} {space′} {n} cs f h =
     let w = written [] fresh-holds cs in
-    let whole : space′ ≡ lastAnswer s′ ++ drop n space = f .bytes ∙ rw (le-ltb (length space) n h) in
     let end : take n space′ ≡ answers answerBytes (lastLine (pending [] input)) =
-    ap (take n) whole ∙ take-at (lastAnswer s′) (drop n space) n (sym (f .needed)) ∙ last-line (pending [] input) s′ (w .1) in
+    last-part s′ space n space′ f h ∙ last-line (pending [] input) s′ (w .1) in
     rw (w .0, end)
     (sym (answers-append answerBytes (completed [] input) (lastLine (pending [] input))) ∙ ap (answers answerBytes) (sym (lines-of input)))

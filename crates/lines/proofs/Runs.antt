@@ -1,14 +1,17 @@
 -- What a run of calls answers: of a line of any length its own answer, and of an input, however it is cut into parts, the answers of its lines,
 -- one each and in order. Assumes nothing.
-use Prim.Native.Nat.{ℕ, _*_}
-use mathlib.Core.Path.{_≡_, ap, _∙_}
+use borrow.Author.Tests.{le-ltb}
+use Prim.Native.Nat.{ℕ, _*_, _≤_}
+use native.Mathlib.Omega.{arith}
+use mathlib.Core.Path.{_≡_, sym, ap, _∙_}
 use mathlib.Core.List.{List, [], _∷_, _++_}
-use lib.ListN.{length, take, drop}
+use lib.ListN.{length, take, drop, length-append}
+use lib.Seq.{take-at}
 use Rattle.frame.specs.Frame.{answerBytes}
 use Rattle.lines.specs.declared.Lines.{Lines}
 use Rattle.lines.specs.declared.Fed.{Fed}
 use Rattle.lines.specs.Lines.{linesOf, answers, answersOf, completed, pending, lastLine, answersOver, joined}
-use Rattle.lines.specs.Held.{lineOf, fresh, Holds, after, front, Feeds, lastAnswer, answersFed}
+use Rattle.lines.specs.Held.{lineOf, fresh, Holds, after, front, Feeds, lastAnswer, Finishes, answersFed}
 use Rattle.frame.proofs.Answers.{answer-length}
 use Rattle.lines.proofs.Cutting.{any-cut}
 use Rattle.lines.proofs.Meaning.{one-answer-each}
@@ -32,6 +35,18 @@ last-line (b ∷ bs) s h = ap (answers answerBytes) (begun (lineOf s) (h .line))
   where
     begun : (l : List ℕ) → l ≡ take 19 (b ∷ bs) → lastLine l ≡ l ∷ []
     begun l e = rw e
+
+-- what finish writes, where it has room: the last answer, of eleven bytes at the most
+pub last-length : (s : Lines) → length (lastAnswer s) ≤ 11
+last-length s = one (lineOf s)
+  where
+    one : (l : List ℕ) → length (answers answerBytes (lastLine l)) ≤ 11
+    one [] = omega arith
+    one (b ∷ bs) = omega (arith, length-append (answerBytes (b ∷ bs)) [], answer-length (b ∷ bs))
+
+pub last-part : (s : Lines) (space : List ℕ) (n : ℕ) (space′ : List ℕ) → Finishes s space n space′ → n ≤ length space → take n space′ ≡ lastAnswer s
+last-part s space n space′ f h =
+    ap (take n) (f .bytes ∙ rw (le-ltb (length space) n h)) ∙ take-at (lastAnswer s) (drop n space) n (sym (f .needed))
 
 -- ---- a whole run
 
