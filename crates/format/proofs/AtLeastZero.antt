@@ -1,4 +1,4 @@
--- The words whose square root is answered with a number are those that IEEE 754 compares as at least 0. Assumes nothing.
+-- Which words IEEE 754 compares as at least 0: those from +0 up to the infinity, and -0. Assumes nothing.
 use Prim.Native.Nat.{ℕ, zero, suc, _+_, _-_, _*_, _/_, _^_, _≤_, _<_}
 use native.Mathlib.Nat.{zero-mul, mul-one, mul-pos, zero-lt-suc, mod-eq-of-lt, mod-eq-sub-mod, lt-of-lt-of-le, ne-of-lt, ne-of-gt, le-of-lt, le-of-eq, eq-or-lt-of-le, mul-div-cancel, div-lt-iff-lt-mul, div-add-mod', zero-div, zero-mod}
 use native.Mathlib.Omega.{arith}
@@ -21,8 +21,17 @@ use Rattle.format.proofs.Order.{either}
 use Rattle.format.proofs.Nan.{nan-read, inf-read}
 use Rattle.format.proofs.Value.{word-value}
 
-abbrev pub positiveZero : Float
+abbrev positiveZero : Float
 positiveZero = fin false 0 (pos 0)
+
+zero-read : (f : Format) → ofBits f 0 ≡ positiveZero
+unfolding ofBits
+zero-read binary32 = refl
+zero-read binary64 = refl
+
+-- by the word
+abbrev pub fromZeroUp : Format → ℕ → Bool
+fromZeroUp f w = leb w (infWord f) || eqb w (top f)
 
 -- ---- as a number
 
@@ -74,7 +83,7 @@ or-false : (b : Bool) → (b || false) ≡ b
 or-false true = refl
 or-false false = refl
 
-by-magnitude : (f : Format) (w : ℕ) → w < 2 * top f → (s : Bool) → negative f w ≡ s → atLeastZero f w ≡ cond s (eqb (magnitude f w) 0) (leb (magnitude f w) (infWord f))
+by-magnitude : (f : Format) (w : ℕ) → w < 2 * top f → (s : Bool) → negative f w ≡ s → fromZeroUp f w ≡ cond s (eqb (magnitude f w) 0) (leb (magnitude f w) (infWord f))
 by-magnitude f w h false e =
     let l : w < top f = leb-false (top f) w e in
     rw (ne-eqb w (top f) (ne-of-lt l), mod-eq-of-lt l, or-false)
@@ -147,5 +156,7 @@ module _ (f : Format) (w : ℕ) where
   by-size (inl h) = ⊎-elim an-infinity a-number (eq-or-lt-of-le h)
   by-size (inr h) = a-nan h
 
-pub at-least-zero : (f : Format) (w : ℕ) → w < 2 * top f → atLeastZero f w ≡ le positiveZero (ofBits f w)
-at-least-zero f w h = by-magnitude f w h (negative f w) refl ∙ by-size f w (either (magnitude f w) (infWord f))
+pub at-least-zero : (f : Format) (w : ℕ) → w < 2 * top f → atLeastZero f w ≡ fromZeroUp f w
+at-least-zero f w h =
+    ap (λ (z : Float). le z (ofBits f w)) (zero-read f)
+    ∙ sym (by-magnitude f w h (negative f w) refl ∙ by-size f w (either (magnitude f w) (infWord f)))

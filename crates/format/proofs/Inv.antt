@@ -15,7 +15,7 @@ use Rattle.format.specs.Value.{units, Finite}
 use Rattle.format.specs.Estimates.{invMagic, invWord, Normal, Invertible, InvBound}
 use Rattle.format.proofs.Fields.{hid-pos}
 use Rattle.format.proofs.Order.{either, squares, no-wrap}
-use Rattle.format.proofs.Normal.{normal-finite, twice-units}
+use Rattle.format.proofs.Normal.{normal-finite, unsigned-below, twice-units}
 
 -- ---- over plain numbers
 
@@ -96,6 +96,8 @@ module _ (f : Format) (w : ℕ) (i : Invertible f w) where
       let k = one-squared f ∙ ap (λ (j : ℕ). hid f * hid f * j) p in
       let b = ratio (hid f) t u (units f w) (units f (invWord f w)) (2 ^ e) (2 ^ d) (2 ^ low f * 2 ^ low f) (add-sub-of-le l) x v k in
       record {
+        finite = inv-finite;
+        sign = unsigned-below f w (invWord f w) (invertible-normal .below) (inv-normal .below);
         least = b .0;
         most = b .1;
       }

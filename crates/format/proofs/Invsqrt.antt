@@ -7,11 +7,11 @@ use mathlib.Core.Logic.{_⊎_, inl, inr}
 use lib.Dec.{lit<, lit≤}
 use lib.Pow.{pow-add}
 use lib.Ieee.{binary32, hid}
-use Rattle.format.specs.Fields.{infWord}
+use Rattle.format.specs.Fields.{negative, infWord}
 use Rattle.format.specs.Value.{units, Finite}
 use Rattle.format.specs.Estimates.{invsqrtMagic, invsqrtWord, Normal, InvsqrtBound, InvsqrtTight}
 use Rattle.format.proofs.Order.{either, squares, no-wrap}
-use Rattle.format.proofs.Normal.{finite-below, units-of, pairs, rest, rest-lt, weight, word-by-twos, ByTwos, units-by-twos}
+use Rattle.format.proofs.Normal.{finite-below, unsigned-below, units-of, pairs, rest, rest-lt, weight, word-by-twos, ByTwos, units-by-twos}
 
 -- ---- over plain numbers
 
@@ -107,6 +107,9 @@ module _ (w : ℕ) (n : Normal binary32 w) where
   pub invsqrt-finite : Finite binary32 (invsqrtWord w)
   invsqrt-finite = finite-below binary32 (invsqrtWord w) answer-below
 
+  invsqrt-sign : negative binary32 (invsqrtWord w) ≡ negative binary32 w
+  invsqrt-sign = unsigned-below binary32 w (invsqrtWord w) (n .below) answer-below
+
   -- k is the exponents of the operand's root and of the answer together, and r the answer's fraction
   from : (k z s r : ℕ) → 126 ≤ k → one ≡ z * (2 ^ k * 2 ^ k) → units binary32 w ≡ s * weight binary32 w
       → invsqrtWord w ≡ suc (k - j) * lead + r → r < lead → Within z (s * ((lead + r) * (lead + r))) → InvsqrtTight w (invsqrtWord w)
@@ -115,6 +118,8 @@ module _ (w : ℕ) (n : Normal binary32 w) where
       let e : 2 ^ j * 2 ^ (k - j) ≡ 2 ^ k = sym (pow-add 2 j (k - j)) ∙ ap (λ (i : ℕ). 2 ^ i) (add-sub-of-le (le-trans pairs-le l)) in
       let b = weighed z s (lead + r) (units binary32 w) (units binary32 (invsqrtWord w)) (2 ^ j) (2 ^ (k - j)) (2 ^ k) one x v e u c in
       record {
+        finite = invsqrt-finite;
+        sign = invsqrt-sign;
         least = b .0;
         most = b .1;
       }
@@ -137,6 +142,8 @@ module _ (w : ℕ) (n : Normal binary32 w) where
   invsqrt-bound =
       let b = loose one (product w) (invsqrt-tight .least, invsqrt-tight .most) in
       record {
+        finite = invsqrt-finite;
+        sign = invsqrt-sign;
         least = b .0;
         most = b .1;
       }

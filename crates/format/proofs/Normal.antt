@@ -2,24 +2,29 @@
 use Prim.Native.Nat.{ℕ, zero, suc, _+_, _-_, _*_, _/_, _%_, _^_, _≤_, _<_}
 use native.Mathlib.Nat.{mod-eq-of-lt, mod-lt, mul-pos, div-lt-iff-lt-mul, div-add-mod', eq-or-lt-of-le, le-of-lt, add-sub-of-le, mul-left-comm, two-mul, pow-succ'}
 use native.Mathlib.Omega.{arith}
-use mathlib.Core.Path.{_≡_, ap, _∙_}
+use borrow.Author.Tests.{lt-leb}
+use mathlib.Core.Path.{_≡_, sym, ap, _∙_}
 use mathlib.Core.Logic.{_⊎_, inl, inr}
 use lib.Dec.{lit<}
 use lib.Pow.{pow-add}
 use lib.Arith.{digits-div, digits-mod}
 use lib.Ieee.{Format, binary32, binary64, hid, top}
-use Rattle.format.specs.Fields.{infWord}
+use Rattle.format.specs.Fields.{negative, infWord}
 use Rattle.format.specs.Value.{units, Finite}
 use Rattle.format.specs.Estimates.{Normal}
 use Rattle.format.proofs.Fields.{hid-pos}
 use Rattle.format.proofs.Order.{either}
 
-below-top : (f : Format) (w : ℕ) → w < infWord f → w < top f
+pub below-top : (f : Format) (w : ℕ) → w < infWord f → w < top f
 below-top binary32 w h = omega arith
 below-top binary64 w h = omega arith
 
 pub finite-below : (f : Format) (w : ℕ) → w < infWord f → Finite f w
 finite-below f w h = rw (mod-eq-of-lt (below-top f w h)) (div-lt-iff-lt-mul (hid-pos f) .1 h)
+
+-- two words from +0 up to the infinity have one sign bit
+pub unsigned-below : (f : Format) (w r : ℕ) → w < infWord f → r < infWord f → negative f r ≡ negative f w
+unsigned-below f w r h k = lt-leb (top f) r (below-top f r k) ∙ sym (lt-leb (top f) w (below-top f w h))
 
 pub normal-finite : (f : Format) (w : ℕ) → Normal f w → Finite f w
 normal-finite f w n = finite-below f w (n .below)

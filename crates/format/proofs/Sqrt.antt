@@ -4,15 +4,17 @@ use native.Mathlib.Nat.{mul-le-mul, mul-le-mul-left, mul-le-mul-right, mul-add-d
 use native.Mathlib.Omega.{arith}
 use mathlib.Core.Path.{_≡_, refl, ap, _∙_}
 use mathlib.Core.Logic.{inl, inr}
+use mathlib.Core.Bool.{true}
 use borrow.Author.Tests.{le-leb}
 use lib.Dec.{lit<}
 use lib.Pow.{pow-add, suc-ones}
-use lib.Ieee.{Format, binary32, binary64, prec, emax, low, hid}
+use lib.Ieee.{Format, binary32, binary64, prec, emax, low, hid, lt, eq, le, ofBits}
 use Rattle.format.specs.Fields.{width, infWord, oneWord}
 use Rattle.format.specs.Value.{units, Finite}
-use Rattle.format.specs.Estimates.{sqrtWord, Normal, SqrtBound}
+use Rattle.format.specs.Estimates.{atLeastZero, sqrtWord, Normal, SqrtBound}
 use Rattle.format.proofs.Order.{rearranged, squares}
-use Rattle.format.proofs.Normal.{finite-below, units-of, pairs, rest, rest-lt, weight, word-by-twos, ByTwos, units-by-twos}
+use Rattle.format.proofs.AtLeastZero.{at-least-zero}
+use Rattle.format.proofs.Normal.{below-top, finite-below, unsigned-below, units-of, pairs, rest, rest-lt, weight, word-by-twos, ByTwos, units-by-twos}
 
 -- ---- over plain numbers
 
@@ -71,9 +73,12 @@ module _ (f : Format) (w : ℕ) (n : Normal f w) where
   sum-lt : w + oneWord f < 2 ^ width f
   sum-lt = omega (arith, sum-fits f)
 
+  from-zero : atLeastZero f w ≡ true
+  from-zero = at-least-zero f w (omega (arith, below-top f w (n .below))) ∙ rw (le-leb w (infWord f) (le-of-lt (n .below)))
+
   answer : sqrtWord f w ≡ suc (pairs f w + middle f) * hid f + rest f w / 2
   answer =
-      rw (le-leb w (infWord f) (le-of-lt (n .below)), mod-eq-of-lt sum-lt, sum)
+      rw (from-zero, mod-eq-of-lt sum-lt, sum)
       (mul-add-div (lit< tt) (suc (pairs f w + middle f) * hid f) (rest f w))
 
   answer-below : sqrtWord f w < infWord f
@@ -94,6 +99,8 @@ module _ (f : Format) (w : ℕ) (n : Normal f w) where
       from s x r =
           let b = weighed (hid f - 1) (hid f) s (hid f + rest f w / 2) (units f w) (units f (sqrtWord f w)) (2 ^ low f) (2 ^ pairs f w) (2 ^ middle f) x v (one-weighs f) r in
           record {
+            finite = sqrt-finite;
+            sign = unsigned-below f w (sqrtWord f w) (n .below) answer-below;
             least = b .0;
             most = b .1;
           }
@@ -104,20 +111,26 @@ module _ (f : Format) (w : ℕ) (n : Normal f w) where
 
 -- 9/8 is reached, at 2
 pub sqrt-of-two : 8 * (units binary32 (sqrtWord binary32 0x4000_0000) * units binary32 (sqrtWord binary32 0x4000_0000)) ≡ 9 * (units binary32 0x4000_0000 * 2 ^ 149)
+unfolding le lt eq ofBits
 sqrt-of-two = refl
 
 -- past the positive normal numbers, at binary32: +0, -0, the infinity, a number below 0 and a NaN
 pub sqrt-of-zero : sqrtWord binary32 0x0000_0000 ≡ 0x1fc0_0000
+unfolding le lt eq ofBits
 sqrt-of-zero = refl
 
 pub sqrt-of-minus-zero : sqrtWord binary32 0x8000_0000 ≡ 0x5fc0_0000
+unfolding le lt eq ofBits
 sqrt-of-minus-zero = refl
 
 pub sqrt-of-infinity : sqrtWord binary32 0x7f80_0000 ≡ 0x5f80_0000
+unfolding le lt eq ofBits
 sqrt-of-infinity = refl
 
 pub sqrt-of-minus-one : sqrtWord binary32 0xbf80_0000 ≡ 0x7fc0_0000
+unfolding le lt eq ofBits
 sqrt-of-minus-one = refl
 
 pub sqrt-of-nan : sqrtWord binary32 0x7f80_0001 ≡ 0x7fc0_0000
+unfolding le lt eq ofBits
 sqrt-of-nan = refl

@@ -1,17 +1,17 @@
 -- What micromath's sqrt, inv and invsqrt answer, word by word, and how far each may lie from the true result. Definitions only.
 -- A bound is about x, the operand as a number, and v, the answer as one. It is stated over their counts of units, of which 2 ^ low f make 1.
 use Prim.Native.Nat.{ℕ, _+_, _-_, _*_, _/_, _%_, _^_, _≤_, _<_}
-use mathlib.Core.Bool.{Bool, cond, _||_}
-use lib.Dec.{leb, eqb}
-use lib.Ieee.{Format, binary32, prec, emax, low, hid, top}
-use Rattle.format.specs.Fields.{width, oneWord, infWord, nanWord}
-use Rattle.format.specs.Value.{units}
+use mathlib.Core.Path.{_≡_}
+use mathlib.Core.Bool.{Bool, cond}
+use lib.Ieee.{Format, binary32, prec, emax, low, hid, le, ofBits}
+use Rattle.format.specs.Fields.{width, negative, oneWord, infWord, nanWord}
+use Rattle.format.specs.Value.{units, Finite}
 
 -- ---- the words
 
--- whether a word is, as a number, at least 0: from +0 up to the infinity, or -0
+-- x >= 0, which -0 is and no NaN
 abbrev pub atLeastZero : Format → ℕ → Bool
-atLeastZero f w = leb w (infWord f) || eqb w (top f)
+atLeastZero f w = le (ofBits f 0) (ofBits f w)
 
 abbrev pub sqrtWord : Format → ℕ → ℕ
 sqrtWord f w = cond (atLeastZero f w) ((w + oneWord f) % 2 ^ width f / 2) (nanWord f)
@@ -41,20 +41,26 @@ pub record Invertible (f : Format) (w : ℕ) : Type 0 where
   pub above : hid f ≤ w
   pub below : w ≤ (2 * emax f - 1) * hid f
 
--- ---- the bounds
+-- ---- the bounds: each answer is finite and has its operand's sign bit
 
 -- x * (1 - 1 / 2 ^ (prec f - 1)) ≤ v² ≤ 9/8 * x
 pub record SqrtBound (f : Format) (w r : ℕ) : Type 0 where
+  pub finite : Finite f r
+  pub sign : negative f r ≡ negative f w
   pub least : units f w * (2 ^ (prec f - 1) - 1) * 2 ^ low f ≤ units f r * units f r * 2 ^ (prec f - 1)
   pub most : 8 * (units f r * units f r) ≤ 9 * (units f w * 2 ^ low f)
 
 -- 1 ≤ x * v ≤ 9/8
 pub record InvBound (f : Format) (w r : ℕ) : Type 0 where
+  pub finite : Finite f r
+  pub sign : negative f r ≡ negative f w
   pub least : 2 ^ low f * 2 ^ low f ≤ units f w * units f r
   pub most : 8 * (units f w * units f r) ≤ 9 * (2 ^ low f * 2 ^ low f)
 
 -- a/c ≤ x * v² ≤ b/c
 pub record InvsqrtWithin (a b c w r : ℕ) : Type 0 where
+  pub finite : Finite binary32 r
+  pub sign : negative binary32 r ≡ negative binary32 w
   pub least : a * (2 ^ 149 * 2 ^ 149 * 2 ^ 149) ≤ c * (units binary32 w * (units binary32 r * units binary32 r))
   pub most : c * (units binary32 w * (units binary32 r * units binary32 r)) ≤ b * (2 ^ 149 * 2 ^ 149 * 2 ^ 149)
 
