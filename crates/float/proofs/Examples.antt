@@ -2,7 +2,7 @@
 use mathlib.Core.Bool.{true}
 use mathlib.Core.List.{List, [], _∷_}
 use mathlib.Core.Path.{_≡_, refl}
-use lib.Ieee.{binary32}
+use lib.Ieee.{binary32, lt, eq, le, ofBits}
 use Rattle.format.specs.Estimates.{sqrtWord, invWord, invsqrtWord}
 use Rattle.format.specs.Parts.{truncWord, fractWord, written}
 use Rattle.float.proofs.Rows.{Row, _gives_, agree}
@@ -24,5 +24,5 @@ table =
     ∷ []
 
 pub examples : agree table ≡ true
-unfolding written
+unfolding written le lt eq ofBits
 examples = refl

@@ -160,3 +160,6 @@ pub at-least-zero : (f : Format) (w : ℕ) → w < 2 * top f → atLeastZero f w
 at-least-zero f w h =
     ap (λ (z : Float). le z (ofBits f w)) (zero-read f)
     ∙ sym (by-magnitude f w h (negative f w) refl ∙ by-size f w (either (magnitude f w) (infWord f)))
+
+pub up-to-infinity : (f : Format) (w : ℕ) → w ≤ infWord f → atLeastZero f w ≡ true
+up-to-infinity f w h = at-least-zero f w (omega (arith, inf-lt f)) ∙ rw (le-leb w (infWord f) h)

@@ -4,17 +4,15 @@ use native.Mathlib.Nat.{mul-le-mul, mul-le-mul-left, mul-le-mul-right, mul-add-d
 use native.Mathlib.Omega.{arith}
 use mathlib.Core.Path.{_≡_, refl, ap, _∙_}
 use mathlib.Core.Logic.{inl, inr}
-use mathlib.Core.Bool.{true}
-use borrow.Author.Tests.{le-leb}
 use lib.Dec.{lit<}
 use lib.Pow.{pow-add, suc-ones}
 use lib.Ieee.{Format, binary32, binary64, prec, emax, low, hid, lt, eq, le, ofBits}
 use Rattle.format.specs.Fields.{width, infWord, oneWord}
 use Rattle.format.specs.Value.{units, Finite}
-use Rattle.format.specs.Estimates.{atLeastZero, sqrtWord, Normal, SqrtBound}
+use Rattle.format.specs.Estimates.{sqrtWord, Normal, SqrtBound}
 use Rattle.format.proofs.Order.{rearranged, squares}
-use Rattle.format.proofs.AtLeastZero.{at-least-zero}
-use Rattle.format.proofs.Normal.{below-top, finite-below, unsigned-below, units-of, pairs, rest, rest-lt, weight, word-by-twos, ByTwos, units-by-twos}
+use Rattle.format.proofs.AtLeastZero.{up-to-infinity}
+use Rattle.format.proofs.Normal.{finite-below, unsigned-below, units-of, pairs, rest, rest-lt, weight, word-by-twos, ByTwos, units-by-twos}
 
 -- ---- over plain numbers
 
@@ -73,12 +71,9 @@ module _ (f : Format) (w : ℕ) (n : Normal f w) where
   sum-lt : w + oneWord f < 2 ^ width f
   sum-lt = omega (arith, sum-fits f)
 
-  from-zero : atLeastZero f w ≡ true
-  from-zero = at-least-zero f w (omega (arith, below-top f w (n .below))) ∙ rw (le-leb w (infWord f) (le-of-lt (n .below)))
-
   answer : sqrtWord f w ≡ suc (pairs f w + middle f) * hid f + rest f w / 2
   answer =
-      rw (from-zero, mod-eq-of-lt sum-lt, sum)
+      rw (up-to-infinity f w (le-of-lt (n .below)), mod-eq-of-lt sum-lt, sum)
       (mul-add-div (lit< tt) (suc (pairs f w + middle f) * hid f) (rest f w))
 
   answer-below : sqrtWord f w < infWord f

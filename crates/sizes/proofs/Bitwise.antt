@@ -5,7 +5,7 @@ use native.Mathlib.Nat.{ne-of-lt, le-of-lt}
 use native.Mathlib.Omega.{arith}
 use mathlib.Core.Path.{_≡_}
 use mathlib.Core.Bool.{false}
-use borrow.Author.Tests.{le-leb, ne-eqb}
+use borrow.Author.Tests.{ne-eqb}
 use lib.Ieee.{Format, binary32, nanBits, ones}
 use Rattle.format.specs.Fields.{exponent, oneWord}
 use Rattle.format.specs.Value.{Finite}
@@ -19,6 +19,7 @@ use Rattle.format.proofs.PartsMeaning.{trunc-under32, fract-under32}
 use Rattle.format.proofs.FloorMeaning.{floor-is, ceil-is}
 use Rattle.format.proofs.RoundMeaning.{round-is-nearest}
 use Rattle.format.proofs.Inv.{inv-finite}
+use Rattle.format.proofs.AtLeastZero.{up-to-infinity}
 use Rattle.format.proofs.Invsqrt.{invsqrt-finite}
 
 pub finite-number : (f : Format) (w : ℕ) → Finite f w → nanBits f w ≡ false
@@ -57,7 +58,7 @@ signum-number w h = rw (finite-number binary32 w h) (copysign-number (oneWord bi
 
 -- of every word with its sign clear that is no NaN
 pub sqrt-of-word : (w : ℕ) → w ≤ 0x7f80_0000 → nanBits binary32 (sqrtWord binary32 w) ≡ false
-sqrt-of-word w h = rw (le-leb w 0x7f80_0000 h) (finite-number binary32 ((w + 0x3f80_0000) % 2 ^ 32 / 2) (omega arith))
+sqrt-of-word w h = rw (up-to-infinity binary32 w h) (finite-number binary32 ((w + 0x3f80_0000) % 2 ^ 32 / 2) (omega arith))
 
 pub sqrt-number : (w : ℕ) → Normal binary32 w → nanBits binary32 (sqrtWord binary32 w) ≡ false
 sqrt-number w n = sqrt-of-word w (le-of-lt (n .below))

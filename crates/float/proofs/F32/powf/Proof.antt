@@ -7,18 +7,19 @@ use Prim.Native.Nat.{ℕ}
 use lib.Ieee.{Float, binary32, le, neg, ofBits, toBits}
 use Rattle.format.specs.Fields.{magnitude, nanWord}
 use Rattle.format.specs.Exponent.{isIntegerWord, isEvenWord}
-use Rattle.float.specs.Powf.{isFromZero, raisedWord, powfWord}
+use Rattle.format.specs.Estimates.{atLeastZero}
+use Rattle.float.specs.Powf.{raisedWord, powfWord}
 use Rattle.float.proofs.F32.powf.Statement.{statement}
 use Rattle.float.proofs.F32.powf.Tie as tie
 
 -- the definition by its three tests
-picked : (w n : ℕ) (a b c : Bool) → isFromZero w ≡ a → isIntegerWord binary32 n ≡ b → isEvenWord binary32 n ≡ c
+picked : (w n : ℕ) (a b c : Bool) → atLeastZero binary32 w ≡ a → isIntegerWord binary32 n ≡ b → isEvenWord binary32 n ≡ c
     → cond a (raisedWord w n) (cond b (cond c (raisedWord (magnitude binary32 w) n) (toBits binary32 (neg (ofBits binary32 (raisedWord (magnitude binary32 w) n))))) (nanWord binary32))
     ≡ powfWord w n
 unfolding powfWord
 picked w n a b c p q r = rw (p, q, r)
 
-test-is : (c : tie.After-value) → le (ofBits binary32 0) (c .value .result) ≡ isFromZero (c .before .args .self .0)
+test-is : (c : tie.After-value) → le (ofBits binary32 0) (c .value .result) ≡ atLeastZero binary32 (c .before .args .self .0)
 test-is c = ap (le (ofBits binary32 0)) (c .value .ensures)
 
 -- the magnitude raised, where the power is whole
