@@ -4,7 +4,7 @@ use native.Mathlib.Nat.{zero-add, add-comm, add-mul, mul-le-mul-left, mod-lt, mo
 use native.Mathlib.Omega.{arith}
 use mathlib.Core.Path.{_≡_, refl, sym, ap, _∙_}
 use mathlib.Core.Logic.{_⊎_, inl, inr}
-use mathlib.Core.Bool.{Bool, true, false, not, cond}
+use mathlib.Core.Bool.{Bool, true, false, not, cond, false≢true}
 use borrow.Author.Tests.{le-leb, lt-leb, leb-true, leb-false}
 use lib.Dec.{leb, lit<}
 use lib.Pow.{pow-add}
@@ -108,6 +108,10 @@ inv-of-one = refl
 
 pub inv-of-three-halves : 8 * (units binary32 0x3fc0_0000 * units binary32 (invWord binary32 0x3fc0_0000)) ≡ 9 * (2 ^ 149 * 2 ^ 149)
 inv-of-three-halves = refl
+
+-- an answer of the other sign is none
+pub inv-not-turned : InvBound binary32 0x3f80_0000 0xbf80_0000 → ⊥
+inv-not-turned b = false≢true (sym (b .sign))
 
 -- ---- the sign
 

@@ -4,6 +4,7 @@ use native.Mathlib.Nat.{mul-le-mul, mul-le-mul-left, mul-le-mul-right, le-trans,
 use native.Mathlib.Omega.{arith}
 use mathlib.Core.Path.{_≡_, refl, sym, ap, _∙_}
 use mathlib.Core.Logic.{_⊎_, inl, inr}
+use mathlib.Core.Bool.{false≢true}
 use lib.Dec.{lit<, lit≤}
 use lib.Pow.{pow-add}
 use lib.Ieee.{binary32, hid}
@@ -147,6 +148,10 @@ module _ (w : ℕ) (n : Normal binary32 w) where
         least = b .0;
         most = b .1;
       }
+
+-- an answer of the other sign is none
+pub invsqrt-not-turned : InvsqrtBound 0x3f80_0000 0xbf77_5a86 → ⊥
+invsqrt-not-turned b = false≢true (sym (b .sign))
 
 -- to six places neither end could be better
 pub invsqrt-least : 1000000 * product 0x406e_b50c < 932451 * one

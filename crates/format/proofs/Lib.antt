@@ -18,3 +18,5 @@ pub mod Inv
 pub mod Sqrt
 pub mod Invsqrt
 pub mod AtLeastZero
+pub mod Same
+pub mod Unique

@@ -2,8 +2,9 @@
 use Prim.Native.Nat.{ℕ, suc, _+_, _-_, _*_, _/_, _^_, _≤_, _<_}
 use native.Mathlib.Nat.{mul-le-mul, mul-le-mul-left, mul-le-mul-right, mul-add-div, mod-eq-of-lt, le-of-lt}
 use native.Mathlib.Omega.{arith}
-use mathlib.Core.Path.{_≡_, refl, ap, _∙_}
+use mathlib.Core.Path.{_≡_, refl, sym, ap, _∙_}
 use mathlib.Core.Logic.{inl, inr}
+use mathlib.Core.Bool.{false≢true}
 use lib.Dec.{lit<}
 use lib.Pow.{pow-add, suc-ones}
 use lib.Ieee.{Format, binary32, binary64, prec, emax, low, hid, lt, eq, le, ofBits}
@@ -108,6 +109,10 @@ module _ (f : Format) (w : ℕ) (n : Normal f w) where
 pub sqrt-of-two : 8 * (units binary32 (sqrtWord binary32 0x4000_0000) * units binary32 (sqrtWord binary32 0x4000_0000)) ≡ 9 * (units binary32 0x4000_0000 * 2 ^ 149)
 unfolding le lt eq ofBits
 sqrt-of-two = refl
+
+-- an answer of the other sign is none
+pub sqrt-not-turned : SqrtBound binary32 0x4080_0000 0xc000_0000 → ⊥
+sqrt-not-turned b = false≢true (sym (b .sign))
 
 -- past the positive normal numbers, at binary32: +0, -0, the infinity, a number below 0 and a NaN
 pub sqrt-of-zero : sqrtWord binary32 0x0000_0000 ≡ 0x1fc0_0000
