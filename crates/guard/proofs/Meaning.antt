@@ -1,5 +1,6 @@
 -- An answered guarded call has its meaning or its bound, with no side condition left: the gate has seen to it. Assumes nothing.
 use Prim.Native.Nat.{ℕ, _^_, _<_}
+use mathlib.Core.Path.{refl}
 use lib.Ieee.{binary32}
 use Rattle.format.specs.Meaning.{IsTrunc, IsFract, IsFloor, IsCeil, IsRound}
 use Rattle.format.specs.Estimates.{Normal, SqrtBound, InvBound, InvsqrtBound, InvsqrtTight}
@@ -14,7 +15,7 @@ use Rattle.guard.specs.Operations.{opTrunc, opFract, opFloor, opCeil, op
 use Rattle.guard.specs.Gates.{judged}
 use Rattle.guard.specs.Guarded.{wordOf, Answered, Guards}
 use Rattle.guard.proofs.Gives.{answered-none, answered-word}
-use Rattle.guard.proofs.Open.{Open, opened, normal-of}
+use Rattle.guard.proofs.Open.{Open, opened, is-normal}
 use Rattle.guard.proofs.NoNan.{under32, to31, under23, invertible}
 
 -- the gate is open to the operands of an answered call
@@ -45,13 +46,13 @@ module _ (a b : ℕ) (r : Answer) where
   -- ---- the estimates
 
   sqrt-normal : Guards opSqrt a b r → Answered r → Normal binary32 a
-  sqrt-normal g h = let o = open-to opSqrt a b r g h in normal-of a (o .first) (o .black) (o .sign)
+  sqrt-normal g h = let o = open-to opSqrt a b r g h in is-normal opSqrt a b refl o refl
 
   pub sqrt-bounded : Guards opSqrt a b r → Answered r → SqrtBound binary32 a (wordOf r)
   sqrt-bounded g h = rw (answered-word g h) (sqrt-bound binary32 a (sqrt-normal g h))
 
   invsqrt-normal : Guards opInvsqrt a b r → Answered r → Normal binary32 a
-  invsqrt-normal g h = let o = open-to opInvsqrt a b r g h in normal-of a (o .first) (o .black) (o .sign)
+  invsqrt-normal g h = let o = open-to opInvsqrt a b r g h in is-normal opInvsqrt a b refl o refl
 
   pub invsqrt-bounded : Guards opInvsqrt a b r → Answered r → InvsqrtBound a (wordOf r)
   invsqrt-bounded g h = rw (answered-word g h) (invsqrt-bound a (invsqrt-normal g h))

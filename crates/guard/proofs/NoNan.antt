@@ -5,9 +5,9 @@ use native.Mathlib.Nat.{le-refl, le-of-lt}
 use native.Mathlib.Omega.{arith}
 use mathlib.Core.Path.{_≡_, refl, sym, ap, subst, _∙_}
 use mathlib.Core.Logic.{_⊎_, inl, inr}
-use mathlib.Core.Bool.{Bool, true, false, cond, true≢false}
-use borrow.Author.Tests.{leb-true, leb-false}
-use lib.Dec.{T, ltb, ltb→lt, leb}
+use mathlib.Core.Bool.{Bool, true, false, cond, not, _&&_, true≢false}
+use borrow.Author.Tests.{leb-true, leb-false, eqb-true}
+use lib.Dec.{leb, eqb}
 use mir.Syntax.{w32}
 use mir.Val.{ofZ, toZ}
 use mir.Facts.{ofZ-toZ}
@@ -33,55 +33,58 @@ use Rattle.sizes.proofs.Cos.{cos-number, sin-number}
 use Rattle.sizes.proofs.Hypot.{hypot-number}
 use Rattle.sizes.proofs.Powi.{powi-number}
 use Rattle.guard.specs.declared.gate.Gate.{Gate}
-use Rattle.guard.specs.Operations.{opTrunc, opFloor, opRound, opInv, opRecip, opExp, opAtan, opAtan2, opCos}
-use Rattle.guard.specs.Gates.{low, high, gateOf, judged, place, passes, larger}
+use Rattle.guard.specs.Operations.{opTrunc, opFloor, opRound, opSqrt, opInvsqrt, opInv, opRecip, opExp, opLn, opPowi, opPowf, opAtan, opAtan2, opCos}
+use Rattle.guard.specs.Gates.{gateOf, judged, place, passes, larger}
 use Rattle.guard.specs.Refusals.{isPastPower, refusalOf}
 use Rattle.guard.specs.Guarded.{valueOf}
 use Rattle.guard.proofs.Each.{Each, done, _⨟_, of-each}
-use Rattle.guard.proofs.Open.{Open, opened, finite-of, not-black, positive, normal-of, Between, both, between}
+use Rattle.guard.proofs.Open.{Open, opened, finite-of, positive, above-black, is-normal, Between, both, one-of, plain, between}
 
 -- ---- the magnitude that an open gate has let pass
 
--- an end is a magnitude
-small : (n : ℕ) → T (ltb n (top binary32)) → n < top binary32
-small n t = ltb→lt n (top binary32) t
-
-by-magnitude : (g : Gate) (a : ℕ) → T (ltb (low g) (top binary32)) → T (ltb (high g) (top binary32)) → passes g (magnitude binary32 a) ≡ true → Between g (magnitude binary32 a)
-by-magnitude g a l h e = between g (magnitude binary32 a) (small (low g) l) (small (high g) h) (magnitude-lt binary32 a) e
+by-magnitude : (g : Gate) (a : ℕ) → plain g ≡ true → passes g (magnitude binary32 a) ≡ true → Between g (magnitude binary32 a)
+by-magnitude g a t e = between g (magnitude binary32 a) t (magnitude-lt binary32 a) e
 
 -- ---- the operands as the kernels' laws have them
 
 module _ (a : ℕ) where
   pub under32 : passes (gateOf opTrunc) (magnitude binary32 a) ≡ true → Under32 a
-  under32 e = let r = by-magnitude (gateOf opTrunc) a tt tt e in omega arith
+  under32 e = let r = by-magnitude (gateOf opTrunc) a refl e in omega arith
 
   pub to31 : passes (gateOf opFloor) (magnitude binary32 a) ≡ true → To31 a
-  to31 e = by-magnitude (gateOf opFloor) a tt tt e .high
+  to31 e = by-magnitude (gateOf opFloor) a refl e .high
 
   pub under23 : passes (gateOf opRound) (magnitude binary32 a) ≡ true → Under23 a
-  under23 e = let r = by-magnitude (gateOf opRound) a tt tt e in record { under = omega arith; clear = r .clear }
+  under23 e = let r = by-magnitude (gateOf opRound) a refl e in record { under = omega arith; clear = r .clear }
 
   under64 : passes (gateOf opAtan) (magnitude binary32 a) ≡ true → magnitude binary32 a < 0x5f80_0000
-  under64 e = let r = by-magnitude (gateOf opAtan) a tt tt e in omega arith
+  under64 e = let r = by-magnitude (gateOf opAtan) a refl e in omega arith
 
 pub invertible : (a b : ℕ) → Open opInv a b → Invertible binary32 a
 unfolding judged
 invertible a b o = record {
-  above = normal-of a (o .first) (o .black) (o .sign) .above;
-  below = subst (λ (x : ℕ). x ≤ 0x7e80_0000) (positive a (o .sign)) (by-magnitude (gateOf opInv) a tt tt (o .gate) .high);
+  above = is-normal opInv a b refl o refl .above;
+  below = subst (λ (x : ℕ). x ≤ 0x7e80_0000) (positive a (o .sign)) (by-magnitude (gateOf opInv) a refl (o .gate) .high);
 }
 
 module _ (a : ℕ) where
   to125 : passes (gateOf opRecip) (magnitude binary32 a) ≡ true → magnitude binary32 a ≤ 0x7e00_0000
-  to125 e = let r = by-magnitude (gateOf opRecip) a tt tt e in omega arith
+  to125 e = let r = by-magnitude (gateOf opRecip) a refl e in omega arith
 
   to1024 : passes (gateOf opCos) (magnitude binary32 a) ≡ true → magnitude binary32 a ≤ 0x4480_0000
-  to1024 e = let r = by-magnitude (gateOf opCos) a tt tt e in omega arith
+  to1024 e = let r = by-magnitude (gateOf opCos) a refl e in omega arith
 
 -- exp's gate has a sign at its low end
 within-exp : (w : ℕ) → w < 2 ^ 32 → passes (gateOf opExp) w ≡ true → (w ≤ 0x42b0_0000) ⊎ ((0x8000_0000 ≤ w) × (w ≤ 0xc2ae_0000))
-within-exp w h e = go (leb (top binary32) w) refl (both _ _ (both _ _ e .0))
+within-exp w h e =
+    elim (one-of ((leb (place 0xc2ae_0000) (place w) && leb (place w) (place 0x42b0_0000)) && not (eqb w 0xffff_ffff)) (eqb w 0xc2ae_0000) e) [
+      | inl p ↦ go (leb (top binary32) w) refl (both _ _ (both _ _ p .0))
+      | inr p ↦ inr (low-end (eqb-true w 0xc2ae_0000 p))
+    ]
   where
+    low-end : w ≡ 0xc2ae_0000 → (0x8000_0000 ≤ w) × (w ≤ 0xc2ae_0000)
+    low-end e = (omega arith, omega arith)
+
     go : (t : Bool) → leb (top binary32) w ≡ t → (leb (place 0xc2ae_0000) (place w) ≡ true) × (leb (place w) (place 0x42b0_0000) ≡ true)
         → (w ≤ 0x42b0_0000) ⊎ ((0x8000_0000 ≤ w) × (w ≤ 0xc2ae_0000))
     go true t q = let x = rw t at (leb-true (place 0xc2ae_0000) (place w) (q .0)) in inr (leb-true (top binary32) w t, omega arith)
@@ -120,7 +123,7 @@ record Pair (m n : ℕ) : Type 0 where
 pair : (a b : ℕ) → passes (gateOf opAtan2) (larger a b) ≡ true → Pair (magnitude binary32 a) (magnitude binary32 b)
 pair a b e =
     let l = larger-is a b in
-    let r = between (gateOf opAtan2) (larger a b) (small (low (gateOf opAtan2)) tt) (small (high (gateOf opAtan2)) tt) (larger-lt a b) e in
+    let r = between (gateOf opAtan2) (larger a b) refl (larger-lt a b) e in
     record { first = omega arith; second = omega arith; either = go (l .either) (r .low) }
   where
     go : {x : ℕ} → (x ≡ magnitude binary32 a) ⊎ (x ≡ magnitude binary32 b) → 0x2180_0000 ≤ x → (0x2180_0000 ≤ magnitude binary32 a) ⊎ (0x2180_0000 ≤ magnitude binary32 b)
@@ -155,14 +158,14 @@ each =
     ⨟ (λ a b h k o. abs-number a (finite-of a (o .first)))
     ⨟ (λ a b h k o. copysign-number a b (finite-of a (o .first)))
     ⨟ (λ a b h k o. signum-number a (finite-of a (o .first)))
-    ⨟ (λ a b h k o. sqrt-number a (normal-of a (o .first) (o .black) (o .sign)))
-    ⨟ (λ a b h k o. invsqrt-number a (normal-of a (o .first) (o .black) (o .sign)))
+    ⨟ (λ a b h k o. sqrt-number a (is-normal opSqrt a b refl o refl))
+    ⨟ (λ a b h k o. invsqrt-number a (is-normal opInvsqrt a b refl o refl))
     ⨟ (λ a b h k o. inv-number a (invertible a b o))
-    ⨟ (λ a b h k o. recip-number a (not-black a (o .black)) (to125 a (o .gate)))
+    ⨟ (λ a b h k o. recip-number a (above-black opRecip a b refl o) (to125 a (o .gate)))
     ⨟ (λ a b h k o. exp-number a (within-exp a h (o .gate)))
-    ⨟ (λ a b h k o. ln-number a (normal-of a (o .first) (o .black) (o .sign)))
-    ⨟ (λ a b h k o. powi-number a (toZ w32 b) h (not-black a (o .black)) (finite-of a (o .first)) (no-least b k (o .power)))
-    ⨟ (λ a b h k o. powf-number a b (normal-of a (o .first) (o .black) (o .sign)) (within-exp (productWord a b) (product-lt a b) (o .gate)))
+    ⨟ (λ a b h k o. ln-number a (is-normal opLn a b refl o refl))
+    ⨟ (λ a b h k o. powi-number a (toZ w32 b) h (above-black opPowi a b refl o) (finite-of a (o .first)) (no-least b k (o .power)))
+    ⨟ (λ a b h k o. powf-number a b (is-normal opPowf a b refl o refl) (within-exp (productWord a b) (product-lt a b) (o .gate)))
     ⨟ (λ a b h k o. atan-number a (under64 a (o .gate)))
     ⨟ (λ a b h k o. let p = pair a b (o .gate) in atan2-number a b h k (p .first) (p .second) (p .either))
     ⨟ (λ a b h k o. cos-number a (to1024 a (o .gate)))

@@ -3,12 +3,12 @@
 use Prim.Native.Nat.{ℕ, _≤_, _<_}
 use native.Mathlib.Nat.{mod-eq-of-lt, div-eq-of-lt, div-lt-iff-lt-mul, le-of-suc-le-suc, eq-or-lt-of-le}
 use native.Mathlib.Omega.{arith}
-use mathlib.Core.Path.{_≡_, refl, subst}
+use mathlib.Core.Path.{_≡_, refl, sym, subst, _∙_}
 use mathlib.Core.Logic.{_⊎_, inl, inr}
-use mathlib.Core.Bool.{Bool, true, false, _&&_, false≢true}
+use mathlib.Core.Bool.{Bool, true, false, not, _&&_, _||_, false≢true}
 use mathlib.Core.List.{[], _∷_}
-use borrow.Author.Tests.{leb-true, leb-false, lt-leb, eqb-false, not-true, not-false}
-use lib.Dec.{leb}
+use borrow.Author.Tests.{leb-true, leb-false, lt-leb, ltb-true, eqb-true, eqb-false, not-true, not-false}
+use lib.Dec.{leb, ltb, eqb}
 use lib.Ieee.{binary32, hid, ones, top}
 use Rattle.format.specs.Fields.{negative, magnitude, exponent, infWord}
 use Rattle.format.specs.Value.{Finite}
@@ -16,7 +16,7 @@ use Rattle.format.specs.Estimates.{Normal}
 use Rattle.format.proofs.Fields.{hid-pos, exponent-lt}
 use Rattle.guard.specs.declared.gate.Gate.{Gate}
 use Rattle.guard.specs.Operations.{among, opPowi}
-use Rattle.guard.specs.Gates.{low, high, hole, gateOf, judged, place, passes}
+use Rattle.guard.specs.Gates.{low, high, hole, also, gateOf, judged, place, passes}
 use Rattle.guard.specs.Refusals.{isEndless, isBlack, isPastPower, twoFloats, refusesBlack, refusesSign, refusalOf}
 use Rattle.guard.proofs.First.{none-holds}
 
@@ -47,7 +47,7 @@ finite-of w n = go (eq-or-lt-of-le (le-of-suc-le-suc (exponent-lt binary32 w)))
 under-infinity : (w : ℕ) → Finite binary32 w → magnitude binary32 w < infWord binary32
 under-infinity w h = div-lt-iff-lt-mul (hid-pos binary32) .0 h
 
-pub not-black : (w : ℕ) → isBlack w ≡ false → hid binary32 ≤ magnitude binary32 w
+not-black : (w : ℕ) → isBlack w ≡ false → hid binary32 ≤ magnitude binary32 w
 not-black w n = go (leb (hid binary32) (magnitude binary32 w)) refl
   where
     go : (t : Bool) → leb (hid binary32) (magnitude binary32 w) ≡ t → hid binary32 ≤ magnitude binary32 w
@@ -57,12 +57,24 @@ not-black w n = go (leb (hid binary32) (magnitude binary32 w)) refl
 pub positive : (w : ℕ) → negative binary32 w ≡ false → magnitude binary32 w ≡ w
 positive w n = mod-eq-of-lt (leb-false _ _ n)
 
-pub normal-of : (w : ℕ) → isEndless w ≡ false → isBlack w ≡ false → negative binary32 w ≡ false → Normal binary32 w
-normal-of w e b n =
-    let m = positive w n in
-    record { above = subst (λ (x : ℕ). hid binary32 ≤ x) m (not-black w b); below = subst (λ (x : ℕ). x < infWord binary32) m (under-infinity w (finite-of w e)) }
+-- an operation that takes no black operand has one above it, and a normal one where it takes no sign either
+module _ (op a b : ℕ) (black : refusesBlack op ≡ true) (o : Open op a b) where
+  pub above-black : hid binary32 ≤ magnitude binary32 a
+  above-black = not-black a (rw black at (o .black))
+
+  pub is-normal : refusesSign op ≡ true → Normal binary32 a
+  is-normal sign =
+      let m = positive a (rw sign at (o .sign)) in
+      record {
+        above = subst (λ (x : ℕ). hid binary32 ≤ x) m above-black;
+        below = subst (λ (x : ℕ). x < infWord binary32) m (under-infinity a (finite-of a (o .first)));
+      }
 
 -- ---- the gate of a word whose sign is clear
+
+pub one-of : (p q : Bool) → (p || q) ≡ true → (p ≡ true) ⊎ (q ≡ true)
+one-of true q e = inl refl
+one-of false q e = inr e
 
 pub record Between (g : Gate) (w : ℕ) : Type 0 where
   pub low : low g ≤ w
@@ -73,12 +85,37 @@ pub both : (p q : Bool) → (p && q) ≡ true → (p ≡ true) × (q ≡ true)
 both true q e = (refl, e)
 both false q e = absurd (false≢true e)
 
-pub between : (g : Gate) (w : ℕ) → low g < top binary32 → high g < top binary32 → w < top binary32 → passes g w ≡ true → Between g w
-between g w l h k e =
-    let p = both _ _ e in
-    let q = both _ _ (p .0) in
-    record {
-      low = let x = rw (lt-leb (top binary32) (low g) l, lt-leb (top binary32) w k) at (leb-true (place (low g)) (place w) (q .0)) in omega arith;
-      high = let x = rw (lt-leb (top binary32) w k, lt-leb (top binary32) (high g) h) at (leb-true (place w) (place (high g)) (q .1)) in omega arith;
-      clear = eqb-false _ _ (not-true _ (p .1));
-    }
+-- a row that lets no other word pass, and whose ends are magnitudes: a test on its words, `tt` where they are written out
+abbrev pub plain : Gate → Bool
+plain g = (ltb (high g) (top binary32) && leb (low g) (high g)) && (eqb (also g) (low g) && not (eqb (low g) (hole g)))
+
+-- the magnitudes that pass: between the ends, or the row's other word
+pub between-or : (g : Gate) (w : ℕ) → low g < top binary32 → high g < top binary32 → w < top binary32 → passes g w ≡ true → Between g w ⊎ (w ≡ also g)
+between-or g w l h k e = go (one-of ((leb (place (low g)) (place w) && leb (place w) (place (high g))) && not (eqb w (hole g))) (eqb w (also g)) e)
+  where
+    inside : ((leb (place (low g)) (place w) && leb (place w) (place (high g))) && not (eqb w (hole g))) ≡ true → Between g w
+    inside e =
+        let p = both _ _ e in
+        let q = both _ _ (p .0) in
+        record {
+          low = let x = rw (lt-leb (top binary32) (low g) l, lt-leb (top binary32) w k) at (leb-true (place (low g)) (place w) (q .0)) in omega arith;
+          high = let x = rw (lt-leb (top binary32) w k, lt-leb (top binary32) (high g) h) at (leb-true (place w) (place (high g)) (q .1)) in omega arith;
+          clear = eqb-false _ _ (not-true _ (p .1));
+        }
+
+    go : (((leb (place (low g)) (place w) && leb (place w) (place (high g))) && not (eqb w (hole g))) ≡ true) ⊎ (eqb w (also g) ≡ true) → Between g w ⊎ (w ≡ also g)
+    go (inl p) = inl (inside p)
+    go (inr p) = inr (eqb-true _ _ p)
+
+pub between : (g : Gate) (w : ℕ) → plain g ≡ true → w < top binary32 → passes g w ≡ true → Between g w
+between g w t k e =
+    let p = both (ltb (high g) (top binary32) && leb (low g) (high g)) (eqb (also g) (low g) && not (eqb (low g) (hole g))) t in
+    let q = both (ltb (high g) (top binary32)) (leb (low g) (high g)) (p .0) in
+    let r = both (eqb (also g) (low g)) (not (eqb (low g) (hole g))) (p .1) in
+    let h = ltb-true (high g) (top binary32) (q .0) in
+    let o = leb-true (low g) (high g) (q .1) in
+    let s = eqb-true (also g) (low g) (r .0) in
+    elim (between-or g w (omega arith) h k e) [
+      | inl b ↦ b
+      | inr d ↦ record { low = omega arith; high = omega arith; clear = λ z. eqb-false (low g) (hole g) (not-true _ (r .1)) (sym s ∙ sym d ∙ z) }
+    ]
