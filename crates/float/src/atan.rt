@@ -3,15 +3,16 @@ ghost use mathlib.Core.Path.{_≡_};
 ghost use Rattle.float.specs.Engine.{ieee};
 ghost use Rattle.float.specs.Atan.{atanNormWord, atanWord};
 use crate::F32;
+use crate::steps;
 
-// 0.596227, by which the curve bends.
-pub const BEND: F32 = F32(0x3f18_a255);
+// By how much the curve bends.
+pub const BEND: f32 = 0.596227;
 
 impl F32 {
     pub fn atan(self) -> F32
         ensures { λ r. ⌜ r .0 ≡ atanWord ieee (self .0) ⌝ }
     {
-        F32::of(F32::FRAC_PI_2.value() * self.atan_norm().value())
+        F32::of(steps::FRAC_PI_2 * self.atan_norm().value())
     }
 
     // From -1 to 1: the quotient is found without the sign, which is or-ed onto it.
@@ -19,7 +20,7 @@ impl F32 {
         ensures { λ r. ⌜ r .0 ≡ atanNormWord ieee (self .0) ⌝ }
     {
         let x = self.value();
-        let bent = F32::of(BEND.value() * x).abs().value();
+        let bent = steps::abs_of(BEND * x);
         let n = bent + x * x;
         let quotient = F32::of(n / (1.0 + bent + n));
         if quotient.is_nan() {

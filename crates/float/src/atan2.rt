@@ -4,6 +4,7 @@ ghost use Rattle.float.specs.Atan2.{offset, quarters, atan2Word};
 use crate::F32;
 use crate::atan;
 use crate::cast;
+use crate::steps;
 
 impl F32 {
     // The number is y, its operand x. Of two zeros the answer is a NaN.
@@ -12,9 +13,9 @@ impl F32 {
     {
         let quarters = quarters(self, rhs);
         if quarters > 2.0 {
-            return F32::of(F32::FRAC_PI_2.value() * (quarters - 4.0));
+            return F32::of(steps::FRAC_PI_2 * (quarters - 4.0));
         }
-        F32::of(F32::FRAC_PI_2.value() * quarters)
+        F32::of(steps::FRAC_PI_2 * quarters)
     }
 }
 
@@ -23,7 +24,7 @@ fn quarters(y: F32, x: F32) -> f32
 {
     let height = y.value();
     let across = x.value();
-    let bent = F32::of(atan::BEND.value() * across * height).abs().value();
+    let bent = steps::abs_of(atan::BEND * across * height);
     let n = bent + height * height;
     let quotient = F32::of(n / (across * across + bent + n));
     let sign = (x.0 & F32::SIGN_MASK) ^ (y.0 & F32::SIGN_MASK);

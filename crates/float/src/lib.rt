@@ -31,6 +31,7 @@ pub mod round;
 pub mod signum;
 pub mod sin;
 pub mod sqrt;
+pub mod steps;
 pub mod trunc;
 pub mod wrap;
 

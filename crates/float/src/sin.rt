@@ -3,11 +3,12 @@ ghost use mathlib.Core.Path.{_≡_};
 ghost use Rattle.float.specs.Engine.{ieee};
 ghost use Rattle.float.specs.Cos.{sinWord};
 use crate::F32;
+use crate::steps;
 
 impl F32 {
     pub fn sin(self) -> F32
         ensures { λ r. ⌜ r .0 ≡ sinWord ieee (self .0) ⌝ }
     {
-        F32::of(self.value() - F32::FRAC_PI_2.value()).cos()
+        F32::of(self.value() - steps::FRAC_PI_2).cos()
     }
 }

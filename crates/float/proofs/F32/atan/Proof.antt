@@ -7,4 +7,9 @@ use Rattle.float.proofs.F32.atan.Tie as tie
 pub atan-spec : {M : Type 1} → statement M
 unfolding atanWord
 atan-spec =
-    tie.close (tie.spec (λ c κs. search needs) (λ c κs. search needs) (λ c κs. search needs) (λ c κs. search needs) (λ c. cc))
+    tie.close
+    (tie.spec
+    (λ c κs. search needs)
+    (λ c κs. search needs)
+    (λ c κs. search needs)
+    (λ c. cc))

@@ -9,8 +9,7 @@ use Rattle.float.proofs.Signs.{nan-answered, or-answered}
 use Rattle.float.proofs.F32.atan_norm.Statement.{statement}
 use Rattle.float.proofs.F32.atan_norm.Tie as tie
 
-answer-is : (c : tie.After-of2) → let w = c .before .before .before .before .before .before .args .self .0 in
-    signedAnswer (negative binary32 w) (c .of2 .result .0) ≡ atanNormWord ieee w
+answer-is : (c : tie.After-of) → let w = c .before .before .before .args .self .0 in signedAnswer (negative binary32 w) (c .of .result .0) ≡ atanNormWord ieee w
 unfolding atanNormWord
 answer-is c = cc
 
@@ -22,15 +21,12 @@ atan-norm-spec =
     (λ c κs. search needs)
     (λ c κs. search needs)
     (λ c κs. search needs)
-    (λ c κs. search needs)
-    (λ c κs. search needs)
-    (λ c κs. search needs)
     (λ c.
-    let w = c .before .before .before .before .before .before .before .before .args .self .0 in
-    nan-answered (negative binary32 w) (c .before .before .of2 .result .0) (sym (c .before .is-nan .ensures) ∙ c .if1 .taken) ∙ answer-is (c .before .before))
+    let found = c .before .before in
+    nan-answered (negative binary32 (found .before .before .before .args .self .0)) (found .of .result .0) (sym (c .before .is-nan .ensures) ∙ c .if1 .taken) ∙ answer-is found)
     (λ c.
     let tested = c .before .before .before in
-    let w = tested .before .before .before .before .before .before .before .args .self .0 in
-    or-answered w (tested .before .of2 .result .0) (c .before .struct-known .given .0 .fits) (c .struct-known2 .given .0 .fits)
+    let found = tested .before in
+    or-answered (found .before .before .before .args .self .0) (found .of .result .0) (c .before .struct-known .given .0 .fits) (c .struct-known2 .given .0 .fits)
     (sym (tested .is-nan .ensures) ∙ c .before .before .if1 .left)
-    ∙ answer-is (tested .before)))
+    ∙ answer-is found))

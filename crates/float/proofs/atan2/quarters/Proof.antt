@@ -17,11 +17,8 @@ quarters-spec =
     (λ c κs. search needs)
     (λ c κs. search needs)
     (λ c κs. search needs)
-    (λ c κs. search needs)
-    (λ c κs. search needs)
-    (λ c κs. search needs)
     (λ c.
     let signs = c .before .before .before .before in
     let divided = signs .before .before in
-    let a = divided .before .before .before .before .before .before .before .args in
-    cc (signs-or (a .y .0) (a .x .0) (signs .struct-known2 .given .0 .fits) (signs .before .struct-known .given .0 .fits) (divided .of2 .result .0) (c .before .struct-known3 .given .0 .fits))))
+    let a = divided .before .before .before .before .args in
+    cc (signs-or (a .y .0) (a .x .0) (signs .struct-known2 .given .0 .fits) (signs .before .struct-known .given .0 .fits) (divided .of .result .0) (c .before .struct-known3 .given .0 .fits))))
