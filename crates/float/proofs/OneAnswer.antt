@@ -48,6 +48,9 @@ use Rattle.float.proofs.wrap.difference.Reads as difference
 use Rattle.float.proofs.wrap.product.Reads as product
 use Rattle.float.proofs.wrap.shl.Reads as shl
 use Rattle.float.proofs.wrap.shr.Reads as shr
+use Rattle.float.proofs.steps.abs_of.Reads as abs-of
+use Rattle.float.proofs.steps.floor_of.Reads as floor-of
+use Rattle.float.proofs.steps.is_at.Reads as is-at
 
 module _ (κs : Lfts 0) where
   -- ---- the number type and its two conversions
@@ -125,6 +128,15 @@ module _ (κs : Lfts 0) where
 
   pub wrap-shr : OneAnswer (shr.Post κs) (λ r x. r)
   wrap-shr = pinned _ (λ a r x p. p)
+
+  pub steps-abs-of : OneAnswer (abs-of.Post κs) (λ r x. r)
+  steps-abs-of = pinned _ (λ a r x p. p)
+
+  pub steps-floor-of : OneAnswer (floor-of.Post κs) (λ r x. r)
+  steps-floor-of = pinned _ (λ a r x p. p)
+
+  pub steps-is-at : OneAnswer (is-at.Post κs) (λ r x. r)
+  steps-is-at = pinned _ (λ a r x p. p)
 
   -- ---- the kernels
   pub F32-trunc : OneAnswer (trunc.Post κs) (λ r x. r .0)

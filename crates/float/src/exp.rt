@@ -2,39 +2,38 @@
 // series.
 ghost use mathlib.Core.Path.{_≡_};
 ghost use lib.IntN.{_+ℤ_};
-ghost use Rattle.float.specs.Exp.{isAt, series, clipped, scaledWord, powerWord, expWord};
+ghost use Rattle.float.specs.Exp.{series, clipped, scaledWord, powerWord, expWord};
 use crate::F32;
+use crate::steps;
 
-const MINUS_ONE: F32 = F32(0xbf80_0000);
+// As the language's own floats.
+const E: f32 = 2.7182817;
+
+const LOG2_E: f32 = 1.442695;
 
 impl F32 {
     pub fn exp(self) -> F32
         ensures { λ r. ⌜ r .0 ≡ expWord (self .0) ⌝ }
     {
-        if self.value() == 0.0 {
+        let x = self.value();
+        if x == 0.0 {
             return F32::ONE;
         }
-        if is_at(self, F32::ONE) {
+        if steps::is_at(x, 1.0) {
             return F32::E;
         }
-        if is_at(self, MINUS_ONE) {
-            return F32::of(F32::ONE.value() / F32::E.value());
+        if steps::is_at(x, -1.0) {
+            return F32::of(1.0 / E);
         }
-        power(F32::of(self.value() * F32::LOG2_E.value()))
+        power(F32::of(x * LOG2_E))
     }
-}
-
-fn is_at(x: F32, y: F32) -> bool
-    ensures { λ r. ⌜ r ≡ isAt (x .0) (y .0) ⌝ }
-{
-    F32::of(x.value() - y.value()).abs().value() < F32::EPSILON.value()
 }
 
 // 2 raised to a number.
 fn power(log: F32) -> F32
     ensures { λ r. ⌜ r .0 ≡ powerWord (log .0) ⌝ }
 {
-    let part = F32::of(series(log.fract().value() * F32::LN_2.value()));
+    let part = F32::of(series(log.fract().value() * steps::LN_2));
     let exponent = saturating_sum(part.extract_exponent_value(), log.trunc().to_i32());
     scaled(part, exponent)
 }

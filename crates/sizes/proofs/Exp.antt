@@ -10,7 +10,7 @@ use borrow.Author.Tests.{ltb-false, le-ltb}
 use lib.Dec.{T, leb, ltb, lit<, lit≤}
 use lib.IntN.{ℤ, pos, negsuc, negℤ, _+ℤ_}
 use lib.Pow.{pow-pos}
-use lib.Ieee.{Float, nan, inf, fin, binary32, up, down, mul, div, eq, nanBits, fits, toBits, ofBits, toSigned}
+use lib.Ieee.{Float, neg, nan, inf, fin, binary32, up, down, mul, div, eq, nanBits, fits, toBits, ofBits, toSigned}
 use lib.Ieee.Bits.{ofBits-fits, toBits-lt}
 use lib.Ieee.Fits.{add-fits, mul-fits, down-pos}
 use lib.Ieee.Nearest.{div-mono}
@@ -22,7 +22,8 @@ use Rattle.format.specs.Exponent.{exponentValue, moved, setExponentWord}
 use Rattle.format.specs.Parts.{truncWord, fractWord}
 use Rattle.format.specs.Meaning.{Under32}
 use Rattle.format.proofs.PartsMeaning.{trunc-under32, fract-under32}
-use Rattle.float.specs.Exp.{isAt, series, clipped, scaledWord, logWord, seriesWord, exponentOf, powerWord, expWord}
+use Rattle.float.specs.Rounded.{isAt}
+use Rattle.float.specs.Exp.{series, clipped, scaledWord, logWord, seriesWord, exponentOf, powerWord, expWord}
 use Rattle.sizes.proofs.Size.{AtMost, mul-at-most, add-at-most, div-at-most}
 use Rattle.sizes.proofs.Words.{constant, own-at-most, own-at-least, units-at-most, word-at-most, at-most-number, at-most-word, number-word, units-mono}
 
@@ -166,8 +167,8 @@ of-magnitude : (w : ℕ) → magnitude binary32 w ≤ 0x42b0_0000 → nanBits bi
 unfolding expWord
 of-magnitude w h =
     either-number (eq (ofBits binary32 w) (ofBits binary32 0)) _ _ one-number
-    (either-number (isAt w 0x3f80_0000) _ _ e-number
-    (either-number (isAt w 0xbf80_0000) _ _ over-e-number (power-number w h)))
+    (either-number (isAt (ofBits binary32 w) (ofBits binary32 0x3f80_0000)) _ _ e-number
+    (either-number (isAt (ofBits binary32 w) (neg (ofBits binary32 0x3f80_0000))) _ _ over-e-number (power-number w h)))
 
 pub exp-number : (w : ℕ) → (w ≤ 0x42b0_0000) ⊎ ((0x8000_0000 ≤ w) × (w ≤ 0xc2ae_0000)) → nanBits binary32 (expWord w) ≡ false
 exp-number w (inl h) = of-magnitude w (omega arith)

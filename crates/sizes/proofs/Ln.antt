@@ -22,8 +22,8 @@ use Rattle.format.proofs.Normal.{normal-finite, finite-below, units-of}
 use Rattle.format.proofs.Inv.{inv-normal}
 use Rattle.format.proofs.Value.{word-value, lt-values}
 use Rattle.format.proofs.Order.{either}
-use Rattle.float.specs.Rounded.{_⊗_, number}
-use Rattle.float.specs.Ln.{isAboutOne, polynomial, power, rest, logarithm, lnWord}
+use Rattle.float.specs.Rounded.{_⊗_, number, isAt}
+use Rattle.float.specs.Ln.{polynomial, power, rest, logarithm, lnWord}
 use Rattle.sizes.proofs.Size.{AtMost, round-at-most, mul-at-most, add-at-most, sub-at-most, neg-at-most, div-within}
 use Rattle.sizes.proofs.Words.{constant, own-at-most, own-at-least, at-most-number, number-word, units-mono}
 
@@ -33,9 +33,9 @@ unfolding polynomial
 polynomial-at-most h =
     let e = mul-at-most 0x3e80_0000 (constant binary32 0x3d67_b6d6 tt) h tt in
     let d = mul-at-most 0x4000_0000 (sub-at-most 0x3f80_0000 (constant binary32 0x3ee4_f4b8 tt) e tt) h tt in
-    let c = mul-at-most 0x4100_0000 (add-at-most 0x4080_0000 (constant binary32 0xbfbc_278b tt) d tt) h tt in
+    let c = mul-at-most 0x4100_0000 (add-at-most 0x4080_0000 (neg-at-most (constant binary32 0x3fbc_278b tt)) d tt) h tt in
     let b = mul-at-most 0x4200_0000 (add-at-most 0x4180_0000 (constant binary32 0x4034_8e95 tt) c tt) h tt in
-    add-at-most 0x4280_0000 (constant binary32 0xbfde_f31a tt) b tt
+    add-at-most 0x4280_0000 (neg-at-most (constant binary32 0x3fde_f31a tt)) b tt
 
 -- the exponent is at most 2 ^ 32
 word-of : (b : Bool) (n m : ℕ) → n ≤ 2 ^ 32 → ofZ w32 (cond b (pos n) (negsuc m)) ≤ 2 ^ 32
@@ -112,7 +112,7 @@ pub ln-number : (w : ℕ) → Normal binary32 w → nanBits binary32 (lnWord w) 
 unfolding lnWord
 ln-number w n =
     let b = lt (number w) (number 0x3f80_0000) in
-    either-number (isAboutOne (number w)) _
+    either-number (isAt (number w) (number 0x3f80_0000)) _
     (number-word binary32 _
     (cond-fits binary32 b (neg (logarithm (invWord binary32 w))) (logarithm w) (neg-fits binary32 (logarithm (invWord binary32 w)) (logarithm-fits (invWord binary32 w))) (logarithm-fits w))
     (at-most-number (chosen w n b refl)))

@@ -12,13 +12,13 @@ use Rattle.float.specs.Exp.{clipped, scaledWord, seriesWord, exponentOf,
 use Rattle.float.proofs.exp.power.Statement.{statement}
 use Rattle.float.proofs.exp.power.Tie as tie
 
-part-is : (c : tie.After-of) → c .of .result .0 ≡ seriesWord (c .before .before .before .before .before .args .log .0)
+part-is : (c : tie.After-of) → c .of .result .0 ≡ seriesWord (c .before .before .before .before .args .log .0)
 part-is c = cc
 
-exponent-is : (c : tie.After-saturating-sum) → toZ w32 (ofZ w32 (c .saturating-sum .result)) ≡ exponentOf (c .before .before .before .before .before .before .before .before .before .args .log .0)
+exponent-is : (c : tie.After-saturating-sum) → toZ w32 (ofZ w32 (c .saturating-sum .result)) ≡ exponentOf (c .before .before .before .before .before .before .before .before .args .log .0)
 exponent-is c =
     let found = c .before .before .before in
-    let t = found .before .before .before .before .before .before .args .log .0 in
+    let t = found .before .before .before .before .before .args .log .0 in
     toZ-ofZ (record { sfits = c .saturating-sum .ok })
     ∙ c .saturating-sum .ensures
     ∙ ap clipped
@@ -41,9 +41,8 @@ power-spec =
     (λ c κs. search needs)
     (λ c κs. search needs)
     (λ c κs. search needs)
-    (λ c κs. search needs)
     (λ c.
     let part = c .before .before .before .before .before in
     c .scaled .ensures
     ∙ ap (λ (w : ℕ). scaledWord w (toZ w32 (ofZ w32 (c .before .saturating-sum .result)))) (part-is part)
-    ∙ ap (scaledWord (seriesWord (part .before .before .before .before .before .args .log .0))) (exponent-is (c .before))))
+    ∙ ap (scaledWord (seriesWord (part .before .before .before .before .args .log .0))) (exponent-is (c .before))))

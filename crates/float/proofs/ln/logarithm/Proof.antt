@@ -18,7 +18,6 @@ logarithm-spec =
     (λ c κs. search needs)
     (λ c κs. search needs)
     (λ c κs. search needs)
-    (λ c κs. search needs)
     (λ c.
-    let first = c .before .before .before .before .before .before .before in
+    let first = c .before .before .before .before .before .before in
     cc (toZ-ofZ (record { sfits = first .extract-exponent-value .ok }), only-field binary32 (first .before .args .x .0))))
