@@ -10,6 +10,7 @@ extern "C" {
     fn dampmeadow_words(op: u32, a: u32, b: u32) -> u64;
     fn dampmeadow_atan_norm(a: u32) -> u32;
     fn dampmeadow_atan_norm_guarded(a: u32) -> u64;
+    fn dampmeadow_parts(a: u32, whole: &mut u32, rest: &mut u32) -> u32;
 }
 
 #[link(name = "probe", kind = "static")]
@@ -30,6 +31,13 @@ extern "C" {
 /// The call by number, with its refusal still in the high half.
 pub fn words(op: u32, a: u32, b: u32) -> u64 {
     unsafe { dampmeadow_words(op, a, b) }
+}
+
+/// trunc and fract together: the refusal with the whole part, and the refusal with the rest. A word that is not set shows.
+fn parts(a: u32) -> [u64; 2] {
+    let (mut whole, mut rest) = (!0, !0);
+    let refusal = unsafe { dampmeadow_parts(a, &mut whole, &mut rest) } as u64;
+    [refusal << 32 | whole as u64, refusal << 32 | rest as u64]
 }
 
 /// Which operands a kernel takes, and so which words are tried.
@@ -202,13 +210,18 @@ fn raw() -> Vec<Kernel> {
     ]
 }
 
-/// The guarded form of each raw kernel: its number is 80 less, and no word is skipped. atan_norm alone has no number.
+/// The guarded form of each raw kernel: its number is 80 less, and no word is skipped. atan_norm has no number, and neither
+/// have trunc and fract together, each part of which is held to its own kernel.
 pub fn guarded() -> Vec<Kernel> {
     let call = |raw| match raw {
         Call::Number(n) => Call::Number(n - 0x80),
         Call::Own(_) => Call::Own(|a, _| unsafe { dampmeadow_atan_norm_guarded(a) }),
     };
-    raw().into_iter().map(|k| Kernel { call: call(k.call), agree: Agree::Guarded(Gate::of(k.name)), skips: |_, _| false, ..k }).collect()
+    let each = raw().into_iter().map(|k| Kernel { call: call(k.call), agree: Agree::Guarded(Gate::of(k.name)), skips: |_, _| false, ..k });
+    let whole = own!("parts whole", One, Exact, |a, _| f(a).trunc().to_bits(), |a, _| parts(a)[0]);
+    let rest = own!("parts rest", One, Exact, |a, _| f(a).fract().to_bits(), |a, _| parts(a)[1]);
+    let parts = [(whole, "trunc"), (rest, "fract")].map(|(k, name)| Kernel { agree: Agree::Guarded(Gate::of(name)), ..k });
+    each.chain(parts).collect()
 }
 
 /// The number type's constants in the order of the probe, Rust's own where it has them; past their end a 0.

@@ -124,6 +124,18 @@ uint64_t dampmeadow_atan_norm_guarded(uint32_t a);
  */
 uint32_t dampmeadow_atan_norm(uint32_t a);
 
+/* trunc and fract together, guarded: the whole part of x and what it leaves, both with x's sign. It has no operation number.
+ *
+ * In:   a, the operand's word; its size is under 2^32.
+ *       whole and rest, where the two words are to be put: two places, and neither pointer is NULL.
+ * Back: the refusal, 1 or 4, or 0 where there is none. With a refusal both words are 0.
+ *
+ *   uint32_t whole, rest;
+ *   dampmeadow_parts(0xc0200000, &whole, &rest) == 0     of -2.5: whole is 0xc0000000, -2, and rest 0xbf000000, -0.5
+ *   dampmeadow_parts(0x7fc00000, &whole, &rest) == 1     a NaN: whole and rest are 0
+ */
+uint32_t dampmeadow_parts(uint32_t a, uint32_t *whole, uint32_t *rest);
+
 /* The bytes of an answer to a frame. */
 #define DAMPMEADOW_ANSWER_LENGTH 11
 

@@ -25,6 +25,15 @@ static void refuses(const char *what, uint32_t op, uint32_t a, uint32_t b, uint3
     hold(what, dampmeadow_words(op, a, b), (uint64_t)refusal << 32);
 }
 
+/* The two parts of a number: the refusal, and then each word, in places that hold others before. */
+static void parts(const char *what, uint32_t a, uint32_t refusal, uint32_t whole, uint32_t rest)
+{
+    uint32_t w = 1, r = 2;
+    hold(what, dampmeadow_parts(a, &w, &r), refusal);
+    hold(what, w, whole);
+    hold(what, r, rest);
+}
+
 /* A line of text into a space of 16 bytes, of which `room` are lent: the refusal, the answer, and the bytes that stay. */
 static void line(const char *text, size_t room, uint32_t refusal, const char *answer)
 {
@@ -85,6 +94,12 @@ int main(void)
     hold("atan_norm of a NaN, guarded", dampmeadow_atan_norm_guarded(nan), (uint64_t)DAMPMEADOW_NOT_FINITE << 32);
     hold("atan_norm 1", dampmeadow_atan_norm(0x3f800000), 0x3f000000);
     hold("atan_norm of infinity", dampmeadow_atan_norm(0x7f800000), nan);
+
+    parts("the parts of -2.5", 0xc0200000, DAMPMEADOW_ANSWERED, 0xc0000000, 0xbf000000);
+    parts("the parts of -0", 0x80000000, DAMPMEADOW_ANSWERED, 0x80000000, 0x80000000);
+    parts("the parts of the last below 2^32", 0x4f7fffff, DAMPMEADOW_ANSWERED, 0x4f7fffff, 0);
+    parts("the parts of 2^32", 0x4f800000, DAMPMEADOW_OUTSIDE, 0, 0);
+    parts("the parts of a NaN", nan, DAMPMEADOW_NOT_FINITE, 0, 0);
 
     line("094080000000000000", 16, DAMPMEADOW_ANSWERED, "0040000000\n");
     line("898000000000000000", 11, DAMPMEADOW_ANSWERED, "005fc00000\n");

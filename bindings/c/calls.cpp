@@ -28,6 +28,14 @@ void hold(const char *what, Answer got, Answer due)
     std::printf("%s: refusal %u, %.9g, and refusal %u, %.9g is due\n", what, unsigned(got.refusal), double(got.number), unsigned(due.refusal), double(due.number));
 }
 
+void parts(const char *what, float x, uint32_t refusal, float whole, float rest)
+{
+    uint32_t w = 1, r = 2;
+    const uint32_t got = dampmeadow_parts(dampmeadow_bits(x), &w, &r);
+    hold(what, {got, dampmeadow_float(w)}, {refusal, whole});
+    hold(what, {got, dampmeadow_float(r)}, {refusal, rest});
+}
+
 void line(const std::string &text, const std::string &due)
 {
     tried++;
@@ -53,6 +61,8 @@ int main()
     hold("raw inv -1", call(DAMPMEADOW_RAW + DAMPMEADOW_INV, -1.0f), {DAMPMEADOW_ANSWERED, -1.0f});
     hold("atan_norm 1, guarded", answer(dampmeadow_atan_norm_guarded(0x3f800000)), {DAMPMEADOW_ANSWERED, 0.5f});
     hold("atan_norm 1", {0, dampmeadow_float(dampmeadow_atan_norm(0x3f800000))}, {0, 0.5f});
+    parts("the parts of -2.5", -2.5f, DAMPMEADOW_ANSWERED, -2.0f, -0.5f);
+    parts("the parts of 1e10", 1e10f, DAMPMEADOW_OUTSIDE, 0.0f, 0.0f);
     line("094080000000000000", "0040000000");
     line("a frame is eighteen digits", "0700000000");
 

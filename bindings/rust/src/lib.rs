@@ -48,6 +48,7 @@ mod exported {
         pub fn dampmeadow_answer(line: *const u8, length: usize, space: *mut u8, room: usize) -> u32;
         pub fn dampmeadow_atan_norm(a: u32) -> u32;
         pub fn dampmeadow_atan_norm_guarded(a: u32) -> u64;
+        pub fn dampmeadow_parts(a: u32, whole: *mut u32, rest: *mut u32) -> u32;
     }
 }
 
@@ -127,6 +128,21 @@ pub fn atan_norm(x: f32) -> Result<f32, Refusal> {
 pub fn raw_atan_norm(a: u32) -> u32 {
     // SAFETY: as in `call`.
     unsafe { exported::dampmeadow_atan_norm(a) }
+}
+
+/// [`trunc`] and [`fract`] together, guarded: the whole part and what it leaves, both with the sign of x. Takes |x| under 2^32.
+/// It has no operation number.
+///
+/// ```
+/// use dampmeadow::{parts, Refusal};
+/// assert_eq!(parts(-2.5), Ok((-2.0, -0.5)));
+/// assert_eq!(parts(4294967296.0), Err(Refusal::Outside));
+/// ```
+pub fn parts(x: f32) -> Result<(f32, f32), Refusal> {
+    let (mut whole, mut rest) = (0, 0);
+    // SAFETY: the two places are this function's own and apart; the call writes a word to each, and keeps neither.
+    let refusal = unsafe { exported::dampmeadow_parts(x.to_bits(), &mut whole, &mut rest) };
+    judged(refusal, (f32::from_bits(whole), f32::from_bits(rest)))
 }
 
 /// Answers a frame, given as a line without its newline: [`ANSWER_LENGTH`] bytes at the front of the space, the refusal in two

@@ -54,6 +54,16 @@ fn the_operations_have_their_numbers_and_no_others_exist() {
 }
 
 #[test]
+fn the_two_parts_are_trunc_and_fract() {
+    for x in words().map(f32::from_bits) {
+        let apart = trunc(x).and_then(|whole| Ok((whole.to_bits(), fract(x)?.to_bits())));
+        assert_eq!(parts(x).map(|(whole, rest)| (whole.to_bits(), rest.to_bits())), apart, "{x}");
+    }
+    let kept = parts(-0.75).map(|(whole, rest)| (whole.to_bits(), rest));
+    assert_eq!(kept, Ok((0x8000_0000, -0.75)));
+}
+
+#[test]
 fn both_sides_of_the_gates() {
     let edges = [
         (Operation::Trunc, 0x4f7f_ffff, 0x4f80_0000),

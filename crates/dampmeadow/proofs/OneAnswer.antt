@@ -2,8 +2,13 @@
 use Prim.Native.Nat.{ℕ}
 use mathlib.Core.Path.{ap, _∙_}
 use mathlib.Core.List.{List}
+use lib.Ieee.{binary32}
 use contract.Lifetimes.{Lfts}
 use denote.Ref.{now}
+use Rattle.format.specs.Parts.{truncWord, fractWord}
+use Rattle.guard.specs.Operations.{opTrunc}
+use Rattle.guard.specs.Refusals.{refusalOf}
+use Rattle.frame.specs.Words.{wordBeside}
 use Rattle.frame.specs.Frame.{returned, left}
 use Rattle.frame.proofs.OneAnswer.{seen}
 use Rattle.dampmeadow.proofs.dampmeadow_answer.Reads as answer-reads
@@ -11,6 +16,7 @@ use Rattle.format.proofs.Pinned.{OneAnswer, pinned}
 use Rattle.dampmeadow.proofs.dampmeadow_words.Reads as words
 use Rattle.dampmeadow.proofs.dampmeadow_atan_norm.Reads as atan-norm
 use Rattle.dampmeadow.proofs.dampmeadow_atan_norm_guarded.Reads as atan-norm-guarded
+use Rattle.dampmeadow.proofs.dampmeadow_parts.Reads as parts-reads
 
 pub dampmeadow-words : (κs : Lfts 0) → OneAnswer (words.Post κs) (λ r x. r)
 dampmeadow-words κs = pinned _ (λ a r x p. p)
@@ -25,3 +31,19 @@ pub dampmeadow-answer : (κs : Lfts 2) → OneAnswer (answer-reads.Post κs) (λ
 dampmeadow-answer κs =
     pinned (λ a. seen (returned (now (a .0)) (now (a .1 .0))) (left (now (a .0)) (now (a .1 .0))))
     (λ a r x p. ap (λ (n : ℕ). seen n (now (x .1 .0))) (p .0) ∙ ap (λ (l : List ℕ). seen (returned (now (a .0)) (now (a .1 .0))) l) (p .1))
+
+-- what a caller sees of the call with two lent words
+pub record SeenParts : Type 0 where
+  pub number : ℕ
+  pub whole : ℕ
+  pub rest : ℕ
+
+abbrev pub seenParts : ℕ → ℕ → ℕ → SeenParts
+seenParts n w v = record { number = n; whole = w; rest = v }
+
+partsOf : ℕ → SeenParts
+partsOf a = let n = refusalOf opTrunc a 0 in seenParts n (wordBeside n (truncWord binary32 a)) (wordBeside n (fractWord binary32 a))
+
+pub dampmeadow-parts : (κs : Lfts 2) → OneAnswer (parts-reads.Post κs) (λ r x. seenParts r (now (x .1 .0)) (now (x .1 .1 .0)))
+unfolding partsOf
+dampmeadow-parts κs = pinned (λ a. partsOf (a .0)) (λ a r x p. rw (p .0, p .1 .0, p .1 .1))

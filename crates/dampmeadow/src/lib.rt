@@ -1,10 +1,12 @@
 // The exported calls, for C and Rust. The static library is built from it; no crate stands on it.
 ghost use mathlib.Core.Path.{_≡_};
+ghost use lib.Ieee.{binary32};
+ghost use Rattle.format.specs.Parts.{truncWord, fractWord};
 ghost use Rattle.float.specs.Engine.{ieee};
 ghost use Rattle.float.specs.Atan.{atanNormWord};
-ghost use Rattle.guard.specs.Operations.{opAtan};
+ghost use Rattle.guard.specs.Operations.{opAtan, opTrunc};
 ghost use Rattle.guard.specs.Refusals.{refusalOf};
-ghost use Rattle.frame.specs.Words.{answerWords, wordsOf};
+ghost use Rattle.frame.specs.Words.{answerWords, wordBeside, wordsOf};
 ghost use Rattle.frame.specs.Frame.{returned, left};
 use float::F32;
 use frame::words;
@@ -43,4 +45,18 @@ pub extern "C" fn dampmeadow_atan_norm_guarded(a: u32) -> u64
     ensures { λ r. ⌜ r ≡ answerWords (refusalOf opAtan a 0) (atanNormWord ieee a) ⌝ }
 {
     words::of_answer(guard::atan_norm(F32(a)))
+}
+
+// trunc and fract together, behind the gate that they share: sets the whole part and the rest, and
+// returns the refusal, 0 where there is none. With a refusal both are 0.
+#[no_mangle]
+pub extern "C" fn dampmeadow_parts(a: u32, whole: &mut u32, rest: &mut u32) -> u32
+    ensures number { λ r. ⌜ r ≡ refusalOf opTrunc a 0 ⌝ }
+    ensures whole { λ r. ⌜ now (whole .exit) ≡ wordBeside (refusalOf opTrunc a 0) (truncWord binary32 a) ⌝ }
+    ensures rest { λ r. ⌜ now (rest .exit) ≡ wordBeside (refusalOf opTrunc a 0) (fractWord binary32 a) ⌝ }
+{
+    let answer = guard::parts(F32(a));
+    *whole = answer.word();
+    *rest = answer.second_word();
+    answer.refusal()
 }

@@ -9,9 +9,12 @@ use Rattle.guard.specs.Guarded.{valueOf}
 abbrev pub packed : ℕ → ℕ → ℕ
 packed n w = n * 2 ^ 32 + w
 
--- the refusal n, whose word is 0, or where n is 0 the word w
+-- the word beside the refusal n: 0, or where n is 0 the word w
+abbrev pub wordBeside : ℕ → ℕ → ℕ
+wordBeside n w = cond (eqb n 0) w 0
+
 abbrev pub answerWords : ℕ → ℕ → ℕ
-answerWords n w = packed n (cond (eqb n 0) w 0)
+answerWords n w = packed n (wordBeside n w)
 
 -- a raw operation's number is its kernel's and 80
 abbrev pub kernelNumber : ℕ → ℕ
