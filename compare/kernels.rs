@@ -224,17 +224,34 @@ pub fn guarded() -> Vec<Kernel> {
     each.chain(parts).collect()
 }
 
-/// The number type's constants in the order of the probe, Rust's own where it has them; past their end a 0.
-const CONSTANTS: [u32; 18] = {
-    let floats = [0.0, 1.0, f32::EPSILON, f32::NAN, f32::INFINITY, f32::NEG_INFINITY, consts::FRAC_1_PI, consts::LN_2, consts::LOG2_E, consts::E, consts::PI, consts::FRAC_PI_2];
-    let mut all = [0, 0, 0, 0, 0, 0, 0, 0, 0, 0, 0, 0, 1 << 31, 0xff << 23, (1 << 23) - 1, 127, 23, 0];
-    let mut i = 0;
-    while i < floats.len() {
-        all[i] = floats[i].to_bits();
-        i += 1;
-    }
-    all
-};
+/// Each place of the probe's constants with its word: Rust's own constant where there is one; pi/2, and cos's half of 1/pi, by
+/// a rounded division; past the end a 0.
+const CONSTANTS: [(u32, u32); 20] = [
+    (0, 0.0f32.to_bits()),
+    (1, 1.0f32.to_bits()),
+    (2, f32::EPSILON.to_bits()),
+    (3, f32::NAN.to_bits()),
+    (4, f32::INFINITY.to_bits()),
+    (5, f32::NEG_INFINITY.to_bits()),
+    (6, consts::FRAC_1_PI.to_bits()),
+    (7, consts::LN_2.to_bits()),
+    (8, consts::LOG2_E.to_bits()),
+    (9, consts::E.to_bits()),
+    (10, consts::PI.to_bits()),
+    (11, consts::FRAC_PI_2.to_bits()),
+    (11, (consts::PI / 2.0).to_bits()),
+    (12, 1 << 31),
+    (13, 0xff << 23),
+    (14, (1 << 23) - 1),
+    (15, 127),
+    (16, 23),
+    (17, (consts::FRAC_1_PI / 2.0).to_bits()),
+    (18, 0),
+];
+
+fn constant(a: u32) -> (u32, u32) {
+    CONSTANTS[a as usize % CONSTANTS.len()]
+}
 
 /// The casts, the helpers and the constants.
 fn helpers() -> Vec<Kernel> {
@@ -249,7 +266,7 @@ fn helpers() -> Vec<Kernel> {
         own!("set exponent", Two, Exact, |a, b| helpers::set_exponent(f(a), b as i32).to_bits(), |a, b| unsafe { probe_set_exponent(a, b as i32) as u64 }),
         own!("is integer", One, Exact, |a, _| helpers::is_integer(f(a)) as u32, |a, _| unsafe { probe_is_integer(a) as u64 }),
         own!("is even", One, Exact, |a, _| helpers::is_even(f(a)) as u32, |a, _| unsafe { probe_is_even(a) as u64 }),
-        own!("constants", One, Exact, |a, _| CONSTANTS[a as usize % 18], |a, _| unsafe { probe_constant(a % 18) as u64 }),
+        own!("constants", One, Exact, |a, _| constant(a).1, |a, _| unsafe { probe_constant(constant(a).0) as u64 }),
     ]
 }
 

@@ -6,7 +6,7 @@ use crate::F32;
 use crate::steps;
 
 // Half of 1/PI: one turn is 2 PI.
-const TURN: f32 = 0.15915494;
+pub const TURN: f32 = 0.15915494;
 
 // The share of the parabola's own square that mends it.
 const MENDS: f32 = 0.225;

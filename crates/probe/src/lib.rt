@@ -12,6 +12,7 @@ ghost use Rattle.format.specs.Exponent.{exponentValue, setExponentWord, isInteg
 ghost use lib.ListN.{getD};
 ghost use Rattle.probe.specs.Constants.{constants};
 use float::F32;
+use float::cos::TURN;
 
 #[no_mangle]
 pub extern "C" fn probe_to_i32(a: u32) -> i32
@@ -84,7 +85,8 @@ pub extern "C" fn probe_is_even(a: u32) -> bool
     F32(a).is_even()
 }
 
-// The constants of the number type, by their places in the definition's list, and 0 past its end.
+// The constants of the number type, and the one of cos that is half of another, by their places in
+// the definition's list, and 0 past its end.
 #[no_mangle]
 pub extern "C" fn probe_constant(place: u32) -> u32
     ensures { λ r. ⌜ r ≡ getD constants place 0 ⌝ }
@@ -107,8 +109,9 @@ pub extern "C" fn probe_constant(place: u32) -> u32
         F32::MANTISSA_MASK,
         F32::EXPONENT_BIAS,
         F32::MANTISSA_BITS,
+        F32::of(TURN).0,
     ];
-    if place < 17 {
+    if place < 18 {
         return all[place as usize];
     }
     0
