@@ -2,6 +2,8 @@
 //! `compare/run` has laid both out.
 #![allow(warnings)]
 
+// not ours to lay out
+#[rustfmt::skip]
 mod float;
 
 pub use float::mul_add::helpers;

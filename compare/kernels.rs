@@ -1,7 +1,6 @@
 //! What is compared: each kernel of ours, raw and guarded, beside the crate's, with the rule by which two words agree.
 
 use crate::gates::Gate;
-use crate::sweep::{Count, Trial};
 use micromath::{helpers, F32};
 use std::f32::consts;
 
@@ -69,13 +68,33 @@ pub enum Call {
     Own(fn(u32, u32) -> u64),
 }
 
+/// One call of ours, with what it gives and what it should.
+#[derive(Clone)]
+pub struct Trial {
+    pub call: String,
+    pub a: u32,
+    pub b: Option<u32>,
+    /// Nothing where the crate's word is a NaN and the call may give none.
+    pub expected: Option<u64>,
+    pub ours: u64,
+}
+
+impl Trial {
+    /// The call and its words.
+    pub fn asked(&self) -> String {
+        format!("{} of {:08x}{}", self.call, self.a, self.b.map_or(String::new(), |b| format!(" {b:08x}")))
+    }
+}
+
 pub struct Kernel {
     pub name: &'static str,
     pub call: Call,
     pub takes: Takes,
     pub agree: Agree,
-    /// The words that document 01 has a run skip.
+    /// The words that a run skips: the crate's answer depends on the machine, or does not come.
     pub skips: fn(u32, u32) -> bool,
+    /// Whether a NaN that the crate answers with was put together from bits, as `set_exponent` does, and made by no arithmetic.
+    pub builds: fn(u32, u32) -> bool,
     pub theirs: fn(u32, u32) -> u32,
 }
 
@@ -100,7 +119,7 @@ impl Kernel {
         matches!(self.agree, Agree::Guarded(_))
     }
 
-    /// The refusal that document 01 gives for these words, or 0; only a guarded kernel has any.
+    /// The refusal that the gate gives for these words, or 0; only a guarded kernel has any.
     #[inline(always)]
     pub fn refusal(&self, a: u32, b: u32) -> u64 {
         match self.agree {
@@ -114,19 +133,27 @@ impl Kernel {
     pub fn answer(&self, a: u32, b: u32) -> Option<u64> {
         let theirs = (self.theirs)(a, b);
         match self.agree {
-            Agree::Nan if is_nan(theirs) => Some(0x7fc0_0000),
+            Agree::Nan if is_nan(theirs) => Some(NAN as u64),
             Agree::Guarded(_) if is_nan(theirs) => None,
             _ => Some(theirs as u64),
         }
     }
 
-    /// What ours has to give, if anything will do. The crate is not called where document 01 refuses.
+    /// What ours has to give, if anything will do. The crate is not called where the gate refuses.
     #[inline(always)]
     pub fn expected(&self, a: u32, b: u32) -> Option<u64> {
         match self.refusal(a, b) {
             0 => self.answer(a, b),
             refusal => Some(refusal << 32),
         }
+    }
+
+    /// The crate's word, where it is a NaN that the crate built from bits and ours is another. A signalling NaN is built, whatever
+    /// kernel it is from: arithmetic makes none.
+    pub fn built(&self, a: u32, b: u32) -> Option<u32> {
+        let theirs = (self.theirs)(a, b);
+        let is_built = matches!(self.agree, Agree::Nan) && is_nan(theirs) && (theirs & QUIET == 0 || (self.builds)(a, b));
+        (is_built && theirs != NAN).then_some(theirs)
     }
 
     /// What ours gives: a refusal in the high half, a word in the low.
@@ -144,6 +171,12 @@ impl Kernel {
     }
 }
 
+/// The NaN that ours is, whatever NaN the crate's arithmetic made.
+pub const NAN: u32 = 0x7fc0_0000;
+
+/// The digit that a signalling NaN does not have.
+const QUIET: u32 = 0x0040_0000;
+
 pub fn is_nan(w: u32) -> bool {
     w & 0x7fff_ffff > 0x7f80_0000
 }
@@ -152,37 +185,48 @@ fn f(w: u32) -> F32 {
     F32::from_bits(w)
 }
 
-/// powf's words for which a NaN reaches exp: the product of the power and the logarithm is one.
-fn nan_reaches_exp(a: u32, b: u32) -> bool {
+/// What powf hands to exp, the product of the power and the logarithm, if it calls exp at all.
+fn reaches_exp(a: u32, b: u32) -> Option<f32> {
     let (x, n) = (f(a), f(b));
     let base = if x.0 >= 0.0 {
         x
     } else if helpers::is_integer(n) {
         helpers::without_sign(x)
     } else {
-        return false;
+        return None;
     };
-    (n.0 * base.ln().0).is_nan()
+    Some(n.0 * base.ln().0)
 }
 
-/// A raw kernel: ours is the call by number, which must not refuse.
-macro_rules! raw {
-    ($number:literal, $name:literal, $takes:ident, $agree:ident, $theirs:expr) => {
-        raw!($number, $name, $takes, $agree, $theirs, |_, _| false)
+/// A kernel of ours and the crate's beside it; nothing is skipped, and no NaN of it is built from bits.
+macro_rules! kernel {
+    ($call:expr, $name:literal, $takes:ident, $agree:expr, $theirs:expr) => {
+        Kernel { name: $name, call: $call, takes: Takes::$takes, agree: $agree, skips: |_, _| false, builds: |_, _| false, theirs: $theirs }
     };
-    ($number:literal, $name:literal, $takes:ident, $agree:ident, $theirs:expr, $skips:expr) => {
-        Kernel { name: $name, call: Call::Number($number), takes: Takes::$takes, agree: Agree::$agree, skips: $skips, theirs: $theirs }
+}
+
+/// A raw kernel: ours is the call by number, which must not refuse. Then come the rules that are its own.
+macro_rules! raw {
+    ($number:literal, $name:literal, $takes:ident, $agree:ident, $theirs:expr $(, $field:ident: $rule:expr)*) => {
+        Kernel { $($field: $rule,)* ..kernel!(Call::Number($number), $name, $takes, Agree::$agree, $theirs) }
     };
 }
 
 /// What has no number, by its own exported call.
 macro_rules! own {
     ($name:literal, $takes:ident, $agree:ident, $theirs:expr, $ours:expr) => {
-        Kernel { name: $name, call: Call::Own($ours), takes: Takes::$takes, agree: Agree::$agree, skips: |_, _| false, theirs: $theirs }
+        kernel!(Call::Own($ours), $name, $takes, Agree::$agree, $theirs)
     };
 }
 
-/// The raw kernels.
+/// The same behind the gate of the kernel that is named second.
+macro_rules! guarded {
+    ($name:literal, $gate:literal, $theirs:expr, $ours:expr) => {
+        kernel!(Call::Own($ours), $name, One, Agree::Guarded(Gate::of($gate)), $theirs)
+    };
+}
+
+/// The raw kernels. A NaN that reaches exp is skipped, so each NaN that exp then gives is one that `set_exponent` built.
 fn raw() -> Vec<Kernel> {
     vec![
         raw!(0x81, "trunc", One, Nan, |a, _| f(a).trunc().to_bits()),
@@ -197,10 +241,11 @@ fn raw() -> Vec<Kernel> {
         raw!(0x8a, "invsqrt", One, Exact, |a, _| f(a).invsqrt().to_bits()),
         raw!(0x8b, "inv", One, Exact, |a, _| f(a).inv().to_bits()),
         raw!(0x8c, "recip", One, Nan, |a, _| f(a).recip().to_bits()),
-        raw!(0x8d, "exp", One, Nan, |a, _| f(a).exp().to_bits(), |a, _| is_nan(a)),
+        raw!(0x8d, "exp", One, Nan, |a, _| f(a).exp().to_bits(), skips: |a, _| is_nan(a), builds: |_, _| true),
         raw!(0x8e, "ln", One, Nan, |a, _| f(a).ln().to_bits()),
-        raw!(0x8f, "powi", Power, Nan, |a, b| f(a).powi(b as i32).to_bits(), |_, b| b as i32 == i32::MIN),
-        raw!(0x90, "powf", FloatPower, Nan, |a, b| f(a).powf(f(b)).to_bits(), nan_reaches_exp),
+        raw!(0x8f, "powi", Power, Nan, |a, b| f(a).powi(b as i32).to_bits(), skips: |_, b| b as i32 == i32::MIN),
+        raw!(0x90, "powf", FloatPower, Nan, |a, b| f(a).powf(f(b)).to_bits(),
+            skips: |a, b| reaches_exp(a, b).is_some_and(f32::is_nan), builds: |a, b| reaches_exp(a, b).is_some()),
         raw!(0x91, "atan", One, Nan, |a, _| f(a).atan().to_bits()),
         raw!(0x92, "atan2", Two, Nan, |a, b| f(a).atan2(f(b)).to_bits()),
         raw!(0x93, "cos", One, Nan, |a, _| f(a).cos().to_bits()),
@@ -210,18 +255,20 @@ fn raw() -> Vec<Kernel> {
     ]
 }
 
-/// The guarded form of each raw kernel: its number is 80 less, and no word is skipped. atan_norm has no number, and neither
-/// have trunc and fract together, each part of which is held to its own kernel.
+/// The guarded form of each raw kernel that has a number: its number is 80 less, and no word is skipped. Then those without one:
+/// atan_norm, and trunc and fract together, each part held to its own kernel.
 pub fn guarded() -> Vec<Kernel> {
-    let call = |raw| match raw {
-        Call::Number(n) => Call::Number(n - 0x80),
-        Call::Own(_) => Call::Own(|a, _| unsafe { dampmeadow_atan_norm_guarded(a) }),
+    let by_number = |k: Kernel| match k.call {
+        Call::Number(n) => Some(Kernel { call: Call::Number(n - 0x80), agree: Agree::Guarded(Gate::of(k.name)), skips: |_, _| false, ..k }),
+        Call::Own(_) => None,
     };
-    let each = raw().into_iter().map(|k| Kernel { call: call(k.call), agree: Agree::Guarded(Gate::of(k.name)), skips: |_, _| false, ..k });
-    let whole = own!("parts whole", One, Exact, |a, _| f(a).trunc().to_bits(), |a, _| parts(a)[0]);
-    let rest = own!("parts rest", One, Exact, |a, _| f(a).fract().to_bits(), |a, _| parts(a)[1]);
-    let parts = [(whole, "trunc"), (rest, "fract")].map(|(k, name)| Kernel { agree: Agree::Guarded(Gate::of(name)), ..k });
-    each.chain(parts).collect()
+    let mut all: Vec<Kernel> = raw().into_iter().filter_map(by_number).collect();
+    all.extend([
+        guarded!("atan_norm", "atan_norm", |a, _| f(a).atan_norm().to_bits(), |a, _| unsafe { dampmeadow_atan_norm_guarded(a) }),
+        guarded!("parts whole", "trunc", |a, _| f(a).trunc().to_bits(), |a, _| parts(a)[0]),
+        guarded!("parts rest", "fract", |a, _| f(a).fract().to_bits(), |a, _| parts(a)[1]),
+    ]);
+    all
 }
 
 /// Each place of the probe's constants with its word: Rust's own constant where there is one; pi/2, and cos's half of 1/pi, by
@@ -259,7 +306,7 @@ fn helpers() -> Vec<Kernel> {
         own!("cast to i32", One, Exact, |a, _| f(a).0 as i32 as u32, |a, _| unsafe { probe_to_i32(a) as u32 as u64 }),
         own!("cast from i32", One, Exact, |a, _| (a as i32 as f32).to_bits(), |a, _| unsafe { probe_from_i32(a as i32) as u64 }),
         own!("cast from u32", One, Exact, |a, _| (a as f32).to_bits(), |a, _| unsafe { probe_from_u32(a) as u64 }),
-        own!("value and back", One, Nan, |a, _| a, |a, _| unsafe { probe_value(a) as u64 }),
+        own!("value and back", One, Exact, |a, _| if is_nan(a) { NAN } else { a }, |a, _| unsafe { probe_value(a) as u64 }),
         own!("exponent bits", One, Exact, |a, _| helpers::exponent_bits(f(a)), |a, _| unsafe { probe_exponent_bits(a) as u64 }),
         own!("exponent value", One, Exact, |a, _| helpers::exponent_value(f(a)) as u32, |a, _| unsafe { probe_exponent_value(a) as u32 as u64 }),
         own!("without sign", One, Exact, |a, _| helpers::without_sign(f(a)).to_bits(), |a, _| unsafe { probe_without_sign(a) as u64 }),
@@ -272,28 +319,4 @@ fn helpers() -> Vec<Kernel> {
 
 pub fn all() -> Vec<Kernel> {
     guarded().into_iter().chain(raw()).chain(helpers()).collect()
-}
-
-/// The call by number where it refuses before it looks at the words' values: 6 for every number that has no operation, and 7
-/// for a second word that a known operation does not use and that is not zero. Each refusal's word is zero.
-pub fn refusals() -> Count {
-    let known = all();
-    let mut count = Count::default();
-    let mut expect = |op: u32, a: u32, b: u32, refusal: u64| {
-        count.judge(Trial { call: format!("{op:02x}"), a, b: Some(b), expected: Some(refusal << 32), ours: words(op, a, b) });
-    };
-    let samples = [0, 1, 0x3f80_0000, 0x7fc0_0000, 0x8000_0000, 0xffff_ffff];
-    for op in (0..0x400).chain((0..32).map(|k| 1 << k)).chain([0x106, 0x186, 0x8000_0006, 0x8000_0086, u32::MAX]) {
-        let kernel = known.iter().find(|k| matches!(k.call, Call::Number(n) if n == op));
-        for a in samples {
-            for b in samples {
-                match kernel {
-                    None => expect(op, a, b, 6),
-                    Some(k) if k.takes == Takes::One && b != 0 => expect(op, a, b, 7),
-                    Some(_) => {}
-                }
-            }
-        }
-    }
-    count
 }

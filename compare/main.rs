@@ -8,6 +8,7 @@ mod gates;
 mod kernels;
 mod lines;
 mod reader;
+mod refusals;
 mod speed;
 mod sweep;
 mod vectors;
@@ -116,7 +117,7 @@ fn main() {
         report("edges of the gates, by hand", edges::edges(wants));
     }
     if wanted.only.is_empty() {
-        report("refusals of the call by number", kernels::refusals());
+        report("refusals of the call by number", refusals::refusals());
     }
     println!("{}", sweep::line("in all", &total));
     exit(if total.differ == 0 { 0 } else { 1 });

@@ -1,5 +1,5 @@
-//! Frames read and answered as document 01 says: lines in, answers out. Nothing here is taken from the library. The raw words
-//! are the crate's, the refusals are those of `gates.rs`, and what runs skip is answered as the document pins it.
+//! Frames read and answered: lines in, answers out. Nothing here is taken from the library. The raw words are the crate's, the
+//! refusals are those of `gates.rs`, and what runs skip is answered by the rules of docs/DIFFERENCES.md.
 
 use crate::kernels::{all, Call, Kernel, Takes};
 use std::io::{self, BufRead, Write};

@@ -1,22 +1,11 @@
 //! Going over the words, on every core, with a line of progress.
 
-use crate::kernels::{Kernel, Takes};
+use crate::kernels::{Kernel, Takes, Trial, NAN};
 use crate::words::{edges, Random};
 use std::io::{IsTerminal, Write};
 use std::sync::atomic::{AtomicU64, Ordering};
 use std::sync::Mutex;
 use std::time::{Duration, Instant};
-
-/// One call of ours, with what it gives and what it should.
-#[derive(Clone)]
-pub struct Trial {
-    pub call: String,
-    pub a: u32,
-    pub b: Option<u32>,
-    /// Nothing where the crate's word is a NaN and the call may give none.
-    pub expected: Option<u64>,
-    pub ours: u64,
-}
 
 #[derive(Default)]
 pub struct Count {
@@ -25,6 +14,10 @@ pub struct Count {
     pub differ: u64,
     /// The first that differs.
     pub first: Option<Trial>,
+    /// NaN of the crate's that it built from bits, and that are 7fc00000 in ours by rule.
+    pub built: u64,
+    /// The first of these: the call, its words, and the crate's word.
+    pub first_built: Option<(Trial, u32)>,
 }
 
 impl Count {
@@ -41,6 +34,8 @@ impl Count {
         self.skipped += other.skipped;
         self.differ += other.differ;
         self.first = self.first.take().or_else(|| other.first.clone());
+        self.built += other.built;
+        self.first_built = self.first_built.take().or_else(|| other.first_built.clone());
     }
 }
 
@@ -49,15 +44,17 @@ pub fn line(label: &str, count: &Count) -> String {
     if count.skipped > 0 {
         line += &format!(", {} skipped", count.skipped);
     }
+    if let Some((t, theirs)) = &count.first_built {
+        line += &format!(", {} where the crate built a NaN from bits (the first: {} is {theirs:08x} there and {} here)", count.built, t.asked(), written(t.ours));
+    }
     if let Some(t) = &count.first {
-        let second = t.b.map_or(String::new(), |b| format!(" {b:08x}"));
         let expected = t.expected.map_or("no NaN".to_string(), written);
-        line += &format!("; the first: {} of {:08x}{second} should be {expected} and is {}", t.call, t.a, written(t.ours));
+        line += &format!("; the first: {} should be {expected} and is {}", t.asked(), written(t.ours));
     }
     line
 }
 
-/// An answer as document 01 writes it: a word, or the refusal's number.
+/// An answer for a reader: a word, or the refusal's number.
 fn written(answer: u64) -> String {
     match answer >> 32 {
         0 => format!("{answer:08x}"),
@@ -120,6 +117,12 @@ impl Plan {
             if expected != Some(kernel.ours(a, b)) {
                 count.differ += 1;
                 count.first.get_or_insert_with(|| kernel.trial(a, b, expected));
+            }
+            if expected == Some(NAN as u64) {
+                if let Some(theirs) = kernel.built(a, b) {
+                    count.built += 1;
+                    count.first_built.get_or_insert_with(|| (kernel.trial(a, b, expected), theirs));
+                }
             }
         }
         count.tried = to - from - count.skipped;
