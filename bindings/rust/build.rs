@@ -1,14 +1,15 @@
-//! Finds libdampmeadow.a for the processor that is compiled for, or builds it with `rt`, or says what is missing.
+//! Finds libdampmeadow.a for the machine that is compiled for, or builds it with `rt`, or says what is missing.
 //!
-//! It is looked for in the folder DAMPMEADOW_LIB_DIR, where that is set and not empty, and nowhere else then. Else in the
-//! repository's target/staticlib, where `rt staticlib dampmeadow` writes it for x86-64, and in target/library, where
-//! bindings/try puts one for the machine that it runs on. One that is older than the crates it is built from is not taken. To
-//! build it is to prove it first, which takes a minute or two.
+//! The library is in Linux's object format, ELF, so a build for another system is refused, and so is one for a processor that
+//! is not in the list below. It is looked for in the folder DAMPMEADOW_LIB_DIR, where that is set and not empty, and nowhere
+//! else then. Else in the repository's target/staticlib, where `rt staticlib dampmeadow` writes it for x86-64, and in
+//! target/library, where bindings/try puts one for the machine that it runs on. One that is for another machine, or older than
+//! the crates it is built from, is not taken. To build it is to prove it first, which takes a minute or two.
 
 use std::path::{Path, PathBuf};
 use std::process::{exit, Command};
 use std::time::SystemTime;
-use std::{env, fs, io};
+use std::{env, fmt, fs, io};
 
 const LIBRARY: &str = "libdampmeadow.a";
 
@@ -30,11 +31,11 @@ fn main() {
 
 /// The folder that holds the library.
 fn folder() -> Result<PathBuf, String> {
-    let processor = env::var("CARGO_CFG_TARGET_ARCH").unwrap_or_default();
+    let target = Machine::wanted()?;
     if let Some(given) = env::var_os("DAMPMEADOW_LIB_DIR").filter(|given| !given.is_empty()) {
         // a build script runs in its own crate's folder, which is not where the user stands
         let given = env::current_dir().unwrap_or_default().join(given);
-        return match fault(&given, &processor, None) {
+        return match fault(&given, target, None) {
             None => Ok(given),
             Some(fault) => Err(format!("DAMPMEADOW_LIB_DIR, which is best a path from the root: {fault}")),
         };
@@ -47,21 +48,21 @@ fn folder() -> Result<PathBuf, String> {
     let changed = newest(&crates).max(newest(&root.join("crates.txt")));
     let mut faults = Vec::new();
     for folder in [&staticlib, &library] {
-        match fault(folder, &processor, changed) {
+        match fault(folder, target, changed) {
             None => return Ok(folder.clone()),
             Some(fault) => faults.push(fault),
         }
     }
     let faults = faults.join("; ");
-    if processor != "x86_64" {
+    if target != Machine::X86_64 {
         return Err(format!(
-            "{faults}. rt builds it for x86-64 alone, and this build is for {processor}: run bindings/try once on such a machine, \
+            "{faults}. rt builds it for x86-64 alone, and this build is for {target}: run bindings/try once on such a machine, \
              which has it built for that in target/library, or set DAMPMEADOW_LIB_DIR to a folder that holds a {LIBRARY} for \
-             {processor}"
+             {target}"
         ));
     }
     build(&root).map_err(|why| format!("{faults}. {why}"))?;
-    match fault(&staticlib, &processor, None) {
+    match fault(&staticlib, target, None) {
         None => Ok(staticlib),
         Some(fault) => Err(format!("rt staticlib dampmeadow ended well, but {fault}")),
     }
@@ -105,17 +106,17 @@ fn build(root: &Path) -> Result<(), String> {
 }
 
 /// What is wrong with the library in a folder, if anything.
-fn fault(folder: &Path, processor: &str, changed: Option<SystemTime>) -> Option<String> {
+fn fault(folder: &Path, target: Machine, changed: Option<SystemTime>) -> Option<String> {
     let path = folder.join(LIBRARY);
     let bytes = match fs::read(&path) {
         Ok(bytes) => bytes,
         Err(why) if why.kind() == io::ErrorKind::NotFound => return Some(format!("there is no {}", path.display())),
         Err(why) => return Some(format!("{} cannot be read: {why}", path.display())),
     };
-    if let (Some(has), Some(wants)) = (machine(&bytes), number(processor)) {
-        if has != wants {
-            return Some(format!("{} is for {}, not for {processor}", path.display(), name(has)));
-        }
+    match Machine::of(&bytes) {
+        None => return Some(format!("{} holds no object of Linux's format, ELF", path.display())),
+        Some(has) if has != target => return Some(format!("{} is for {has}, not for {target}", path.display())),
+        Some(_) => {}
     }
     let made = fs::metadata(&path).and_then(|about| about.modified()).ok();
     if changed > made {
@@ -131,32 +132,69 @@ fn newest(path: &Path) -> Option<SystemTime> {
     own.max(within)
 }
 
-/// ELF's numbers of processors.
-const PROCESSORS: [(&str, u16); 3] = [("x86_64", 62), ("aarch64", 183), ("riscv64", 243)];
-
-fn number(processor: &str) -> Option<u16> {
-    PROCESSORS.iter().find(|(name, _)| *name == processor).map(|(_, number)| *number)
+/// A processor as the head of an ELF object names it: how wide its words are, the order of its bytes, and its number.
+#[derive(Clone, Copy, PartialEq)]
+struct Machine {
+    class: u8,
+    order: u8,
+    number: u16,
 }
 
-fn name(number: u16) -> String {
-    let known = PROCESSORS.iter().find(|(_, known)| *known == number);
-    known.map_or_else(|| format!("processor {number} of ELF's list"), |(name, _)| name.to_string())
-}
+impl Machine {
+    const X86_64: Machine = Machine { class: 2, order: 1, number: 62 };
 
-/// The processor that the first ELF object of an archive is for.
-fn machine(archive: &[u8]) -> Option<u16> {
-    const HEADER: usize = 60;
-    let mut rest = archive.strip_prefix(b"!<arch>\n")?;
-    while rest.len() > HEADER {
-        let (header, members) = rest.split_at(HEADER);
-        let size: usize = std::str::from_utf8(&header[48..58]).ok()?.trim().parse().ok()?;
-        let object = members.get(..size)?;
-        if object.starts_with(b"\x7fELF") && size > 20 {
-            let bytes = [object[18], object[19]];
-            return Some(if object[5] == 2 { u16::from_be_bytes(bytes) } else { u16::from_le_bytes(bytes) });
+    /// Those that a library is known for, under Rust's names.
+    const KNOWN: [(&'static str, Machine); 3] = [
+        ("x86_64", Machine::X86_64),
+        ("aarch64", Machine { class: 2, order: 1, number: 183 }),
+        ("riscv64", Machine { class: 2, order: 1, number: 243 }),
+    ];
+
+    /// The machine that is compiled for.
+    fn wanted() -> Result<Machine, String> {
+        let [processor, system, width, order] = ["ARCH", "OS", "POINTER_WIDTH", "ENDIAN"]
+            .map(|name| env::var(format!("CARGO_CFG_TARGET_{name}")).unwrap_or_default());
+        let target = env::var("TARGET").unwrap_or_else(|_| format!("{processor} {system}"));
+        if system != "linux" {
+            return Err(format!(
+                "{LIBRARY} is in Linux's object format, ELF, and this build is for {target}: it cannot be linked"
+            ));
         }
-        // members begin at even places
-        rest = members.get(size + size % 2..)?;
+        // a processor may run with narrower words, or its bytes the other way round, under the same name
+        match Machine::KNOWN.iter().find(|(name, _)| *name == processor) {
+            Some((_, machine)) if width == "64" && order == "little" => Ok(*machine),
+            _ => Err(format!(
+                "there is no {LIBRARY} for {target}: rt builds it for x86-64 Linux, and bindings/try for the Linux machine that \
+                 it runs on"
+            )),
+        }
     }
-    None
+
+    /// What the first ELF object of an archive is for.
+    fn of(archive: &[u8]) -> Option<Machine> {
+        const HEADER: usize = 60;
+        let mut rest = archive.strip_prefix(b"!<arch>\n")?;
+        while rest.len() > HEADER {
+            let (header, members) = rest.split_at(HEADER);
+            let size: usize = std::str::from_utf8(&header[48..58]).ok()?.trim().parse().ok()?;
+            let object = members.get(..size)?;
+            if object.starts_with(b"\x7fELF") && size > 20 {
+                let (class, order, bytes) = (object[4], object[5], [object[18], object[19]]);
+                let number = if order == 2 { u16::from_be_bytes(bytes) } else { u16::from_le_bytes(bytes) };
+                return Some(Machine { class, order, number });
+            }
+            // members begin at even places
+            rest = members.get(size + size % 2..)?;
+        }
+        None
+    }
+}
+
+impl fmt::Display for Machine {
+    fn fmt(&self, out: &mut fmt::Formatter) -> fmt::Result {
+        match Machine::KNOWN.iter().find(|(_, known)| known == self) {
+            Some((name, _)) => write!(out, "{name} Linux"),
+            None => write!(out, "processor {} of ELF's list, class {}, byte order {}", self.number, self.class, self.order),
+        }
+    }
 }
