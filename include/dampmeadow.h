@@ -76,6 +76,7 @@ enum dampmeadow_operation {
 /* ---- The refusals
  *
  * Where more than one of them holds, the first in the column "looked at" is given. Raw forms are refused with 6 and 7 alone.
+ * Later versions have more of them: take every number but 0 for a refusal.
  */
 enum dampmeadow_refusal {                  /* looked at    given when                                                 */
     DAMPMEADOW_ANSWERED = 0,               /*              there is an answer                                         */

@@ -54,10 +54,7 @@ mod exported {
 
 /// `Ok` for 0, and else the refusal of that number.
 fn judged<T>(number: u32, answer: T) -> Result<T, Refusal> {
-    match number {
-        0 => Ok(answer),
-        _ => Err(Refusal::from_number(number).expect("the library gives refusals from 1 to 8 and no others")),
-    }
+    Refusal::from_number(number).map_or(Ok(answer), Err)
 }
 
 /// A refusal in the high 32 bits, and a word in the low 32.

@@ -2,39 +2,43 @@ use core::error::Error;
 use core::fmt::{Display, Formatter, Result};
 
 /// Why there is no answer. Where more than one holds, the first of these is given: 8; 7 for a line that is no frame; 6; 7 for a
-/// second word that should be 0; then 1, 2, 3, 4, 5. What it displays is the specification's wording.
+/// second word that should be 0; then 1, 2, 3, 4, 5. Later versions of the library have more of them, so a `match` ends with
+/// `_`. One displays its number and what it says.
 ///
 /// ```
 /// use dampmeadow::{sqrt, Refusal};
 /// let refusal = sqrt(-1.0).unwrap_err();
 /// assert_eq!(refusal, Refusal::Negative);
 /// assert_eq!(refusal.number(), 3);
-/// assert_eq!(refusal.to_string(), "sign bit set on the first operand");
+/// assert_eq!(refusal.to_string(), "refusal 3: the first operand's sign bit is set");
 /// ```
 #[derive(Clone, Copy, Debug, PartialEq, Eq, Hash)]
-#[repr(u32)]
+#[non_exhaustive]
 pub enum Refusal {
-    /// An operand is an infinity or a NaN: its exponent field, E, is 255.
-    NotFinite = 1,
-    /// The first operand is 0, or too small to be normal: sqrt, invsqrt, inv, recip, ln, powi, powf.
-    Black = 2,
-    /// The first operand's sign bit is set: sqrt, invsqrt, inv, ln, powf.
-    Negative = 3,
-    /// Outside what the operation takes.
-    Outside = 4,
-    /// powi's power is out of its range.
-    PowerOutside = 5,
-    /// No operation has this number.
-    NoSuchOperation = 6,
-    /// The line is no frame; or, judged after 6, the second word is not used by this operation and is not 0.
-    Malformed = 7,
-    /// The space for an answer has fewer than eleven bytes.
-    NoRoom = 8,
+    /// 1: an operand is an infinity or a NaN.
+    NotFinite,
+    /// 2: the first operand is 0, or too small to be normal: sqrt, invsqrt, inv, recip, ln, powi, powf.
+    Black,
+    /// 3: the first operand's sign bit is set: sqrt, invsqrt, inv, ln, powf.
+    Negative,
+    /// 4: outside what the operation takes.
+    Outside,
+    /// 5: powi's power is out of its range.
+    PowerOutside,
+    /// 6: no operation has this number.
+    NoSuchOperation,
+    /// 7: the line is no frame; or, judged after 6, the second word is not used by this operation and is not 0.
+    Malformed,
+    /// 8: the space for an answer has fewer than eleven bytes.
+    NoRoom,
+    /// One that this version does not know, by its number. It is never one of those above.
+    #[non_exhaustive]
+    Unknown { number: u32 },
 }
 
 impl Refusal {
-    /// Every refusal, in the order of their numbers.
-    pub const ALL: [Refusal; 8] = [
+    /// Every refusal that this version knows, in the order of their numbers, from 1.
+    pub const ALL: &'static [Refusal] = &[
         Refusal::NotFinite,
         Refusal::Black,
         Refusal::Negative,
@@ -45,9 +49,19 @@ impl Refusal {
         Refusal::NoRoom,
     ];
 
-    /// Its number, from 1 to 8.
+    /// Its number, which is never 0.
     pub const fn number(self) -> u32 {
-        self as u32
+        match self {
+            Refusal::NotFinite => 1,
+            Refusal::Black => 2,
+            Refusal::Negative => 3,
+            Refusal::Outside => 4,
+            Refusal::PowerOutside => 5,
+            Refusal::NoSuchOperation => 6,
+            Refusal::Malformed => 7,
+            Refusal::NoRoom => 8,
+            Refusal::Unknown { number } => number,
+        }
     }
 
     /// The refusal of this number. 0, which says that there is an answer, is none.
@@ -56,23 +70,26 @@ impl Refusal {
     /// use dampmeadow::Refusal;
     /// assert_eq!(Refusal::from_number(3), Some(Refusal::Negative));
     /// assert_eq!(Refusal::from_number(0), None);
+    /// assert_eq!(Refusal::from_number(99).map(Refusal::number), Some(99));
     /// ```
     pub fn from_number(number: u32) -> Option<Refusal> {
-        Refusal::ALL.into_iter().find(|refusal| refusal.number() == number)
+        let place = number.checked_sub(1)? as usize;
+        Some(Refusal::ALL.get(place).copied().unwrap_or(Refusal::Unknown { number }))
     }
 }
 
 impl Display for Refusal {
     fn fmt(&self, out: &mut Formatter) -> Result {
         out.pad(match self {
-            Refusal::NotFinite => "a float operand has E = 255",
-            Refusal::Black => "black first operand",
-            Refusal::Negative => "sign bit set on the first operand",
-            Refusal::Outside => "outside the operation's gate",
-            Refusal::PowerOutside => "power below -1,048,576 or above 1,048,576",
-            Refusal::NoSuchOperation => "no such operation number",
-            Refusal::Malformed => "malformed frame",
-            Refusal::NoRoom => "answer space under 11 bytes",
+            Refusal::NotFinite => "refusal 1: an operand is an infinity or a NaN",
+            Refusal::Black => "refusal 2: the first operand is 0, or too small to be normal",
+            Refusal::Negative => "refusal 3: the first operand's sign bit is set",
+            Refusal::Outside => "refusal 4: outside what the operation takes",
+            Refusal::PowerOutside => "refusal 5: powi's power is below -1048576 or above 1048576",
+            Refusal::NoSuchOperation => "refusal 6: no operation has this number",
+            Refusal::Malformed => "refusal 7: the line is no frame, or its second word should be 0",
+            Refusal::NoRoom => "refusal 8: the space for the answer has fewer than 11 bytes",
+            Refusal::Unknown { number } => return write!(out, "refusal {number}: not known to this version of the binding"),
         })
     }
 }

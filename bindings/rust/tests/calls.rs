@@ -138,11 +138,22 @@ fn a_frame_and_a_call_agree() {
 
 #[test]
 fn a_refusal_is_an_error_with_its_number() {
-    for (number, refusal) in (1..).zip(Refusal::ALL) {
+    for (number, &refusal) in (1..).zip(Refusal::ALL) {
         assert_eq!(refusal.number(), number);
         assert_eq!(Refusal::from_number(number), Some(refusal));
+        assert!(refusal.to_string().starts_with(&format!("refusal {number}: ")));
     }
-    assert_eq!(Refusal::from_number(9), None);
-    let asked: Result<f32, Box<dyn Error>> = ln(0.0).map_err(Box::from);
-    assert_eq!(asked.unwrap_err().to_string(), "black first operand");
+    let asked: Result<f32, Box<dyn Error>> = exp(f32::NAN).map_err(Box::from);
+    assert_eq!(asked.unwrap_err().to_string(), "refusal 1: an operand is an infinity or a NaN");
+}
+
+#[test]
+fn a_number_that_is_not_known_yet_is_a_refusal_too() {
+    assert_eq!(Refusal::from_number(0), None);
+    for number in (9..300).chain([u32::MAX]) {
+        let refusal = Refusal::from_number(number).unwrap();
+        assert!(matches!(refusal, Refusal::Unknown { number: n, .. } if n == number));
+        assert_eq!(refusal.number(), number);
+        assert_eq!(refusal.to_string(), format!("refusal {number}: not known to this version of the binding"));
+    }
 }
