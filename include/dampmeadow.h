@@ -1,6 +1,7 @@
 /* Dampmeadow: float kernels that give a number or say why not. For C (from C99) and C++.
  *
- * Link it with the library: target/staticlib/libdampmeadow.a, which `rt staticlib dampmeadow` builds for x86-64.
+ * Link it with the library: target/staticlib/libdampmeadow.a, which `rt staticlib dampmeadow` builds for x86-64 Linux. Its
+ * objects are in Linux's format, ELF, which the linkers of other systems do not take.
  *
  *   cc -I include program.c target/staticlib/libdampmeadow.a
  *
@@ -33,43 +34,44 @@ extern "C" {
  * too: those of a size under 2^-126. The example is a guarded call and its answer.
  *
  * sqrt and what comes after it are estimates, as they are in micromath: quick rather than close. sqrt may be some 6 percent
- * too large and inv 12.5; hypot of 3 and 4 is 5.125 here, and sqrt of 2 is 1.5. A power of powi that is too large is an
- * infinity, and of an x under 0.5 in size it gives up early, with 0 or an infinity: 0.4 to 75 is 0. The ln(x) that powf's
- * gate speaks of is this library's own, and the product is rounded.
+ * too large and inv 12.5; hypot of 3 and 4 is 5.125 here, and sqrt of 2 is 1.5. ln of a number below 1 is up to 0.118 off, and
+ * powf with it: ln of 0.99 is -0.0198 here for -0.01005, and 0.75 to 2 is 0.444 for 0.5625. A power of powi that is too large
+ * is an infinity, and of an x under 0.5 in size it gives up early, with 0 or an infinity: 0.4 to 75 is 0. The ln(x) that
+ * powf's gate speaks of is this library's own, and the product is rounded.
  */
 enum dampmeadow_operation {
-    DAMPMEADOW_TRUNC = 0x01,    /* the whole part, toward 0           |x| under 2^32              -2.5 -> -2           */
-    DAMPMEADOW_FRACT = 0x02,    /* what trunc leaves, with x's sign   |x| under 2^32              -2.5 -> -0.5         */
-    DAMPMEADOW_FLOOR = 0x03,    /* the largest whole not above x      |x| to 2^31                 -0.5 -> -1           */
-    DAMPMEADOW_CEIL = 0x04,     /* the smallest whole not below x     |x| to 2^31                 2.5 -> 3             */
-    DAMPMEADOW_ROUND = 0x05,    /* the nearest, halves away from 0    |x| under 2^23, not the     2.5 -> 3             */
-                                /*                                    magnitude 0x3effffff                             */
-    DAMPMEADOW_ABS = 0x06,      /* x without its sign                 every finite x              -2.5 -> 2.5          */
-    DAMPMEADOW_COPYSIGN = 0x07, /* x with the sign of the second      every finite x and second   2.5, -1 -> -2.5      */
-    DAMPMEADOW_SIGNUM = 0x08,   /* 1 or -1 by x's sign bit, 0 too     every finite x              -2.5 -> -1           */
-    DAMPMEADOW_SQRT = 0x09,     /* square root                        x above 0                   4 -> 2               */
-    DAMPMEADOW_INVSQRT = 0x0a,  /* 1 over the square root             x above 0                   1 -> 0.966225028     */
-    DAMPMEADOW_INV = 0x0b,      /* 1/x, the quickest                  x above 0, to 2^126         1.5 -> 0.75          */
-    DAMPMEADOW_RECIP = 0x0c,    /* 1/x, closer                        x not 0, |x| to 2^125       4 -> 0.250000119     */
-    DAMPMEADOW_EXP = 0x0d,      /* e to the x                         x from -87 to 88            1 -> 2.71828175      */
-    DAMPMEADOW_LN = 0x0e,       /* natural logarithm                  x above 0                   2 -> 0.693207741     */
-    DAMPMEADOW_POWI = 0x0f,     /* x to a whole power                 x not 0, power from         3, power 3 -> 27     */
-                                /*                                    -1048576 to 1048576                              */
-    DAMPMEADOW_POWF = 0x10,     /* x to the power n, a float          x above 0, n*ln(x) from     4, 0.5 -> 2.00006056 */
-                                /*                                    -87 to 88                                        */
-    DAMPMEADOW_ATAN = 0x11,     /* arctangent, in radians             |x| under 2^64              1 -> 0.785398185     */
-    DAMPMEADOW_ATAN2 = 0x12,    /* the angle of (x, y): y is first    the larger size from 2^-60  1, 0 -> 1.57079637   */
-                                /*                                    to 2^60                                          */
-    DAMPMEADOW_COS = 0x13,      /* cosine of radians                  |x| to 1024                 0 -> 1               */
-    DAMPMEADOW_SIN = 0x14,      /* sine of radians                    |x| to 1024                 1.57079637 -> 1      */
-    DAMPMEADOW_HYPOT = 0x15     /* length of (x, y)                   the larger size from 2^-60  3, 4 -> 5.125        */
-                                /*                                    to 2^60                                          */
+    DAMPMEADOW_TRUNC = 0x01,    /* the whole part, toward 0           |x| under 2^32              -2.5 -> -2            */
+    DAMPMEADOW_FRACT = 0x02,    /* what trunc leaves, with x's sign   |x| under 2^32              -2.5 -> -0.5          */
+    DAMPMEADOW_FLOOR = 0x03,    /* the largest whole not above x      |x| to 2^31                 -0.5 -> -1            */
+    DAMPMEADOW_CEIL = 0x04,     /* the smallest whole not below x     |x| to 2^31                 2.5 -> 3              */
+    DAMPMEADOW_ROUND = 0x05,    /* the nearest, halves away from 0    |x| under 2^23, not the     2.5 -> 3              */
+                                /*                                    magnitude 0x3effffff                              */
+    DAMPMEADOW_ABS = 0x06,      /* x without its sign                 every finite x              -2.5 -> 2.5           */
+    DAMPMEADOW_COPYSIGN = 0x07, /* x with the sign of the second      every finite x and second   2.5, -1 -> -2.5       */
+    DAMPMEADOW_SIGNUM = 0x08,   /* 1 or -1 by x's sign bit, 0 too     every finite x              -2.5 -> -1            */
+    DAMPMEADOW_SQRT = 0x09,     /* square root                        x above 0                   4 -> 2                */
+    DAMPMEADOW_INVSQRT = 0x0a,  /* 1 over the square root             x above 0                   1 -> 0.966225028      */
+    DAMPMEADOW_INV = 0x0b,      /* 1/x, the quickest                  x above 0, to 2^126         1.5 -> 0.75           */
+    DAMPMEADOW_RECIP = 0x0c,    /* 1/x, closer                        x not 0, |x| to 2^125       4 -> 0.250000119      */
+    DAMPMEADOW_EXP = 0x0d,      /* e to the x                         x from -87 to 88            0.5 -> 1.6484375      */
+    DAMPMEADOW_LN = 0x0e,       /* natural logarithm                  x above 0                   0.75 -> -0.405448198  */
+    DAMPMEADOW_POWI = 0x0f,     /* x to a whole power                 x not 0, power from         3, power 3 -> 27      */
+                                /*                                    -1048576 to 1048576                               */
+    DAMPMEADOW_POWF = 0x10,     /* x to the power n, a float          x above 0, n*ln(x) from     0.75, 2 -> 0.44445956 */
+                                /*                                    -87 to 88                                         */
+    DAMPMEADOW_ATAN = 0x11,     /* arctangent, in radians             |x| under 2^64              0.5 -> 0.466342807    */
+    DAMPMEADOW_ATAN2 = 0x12,    /* the angle of (x, y): y is first    the larger size from 2^-60  1, 2 -> 0.466342807   */
+                                /*                                    to 2^60                                           */
+    DAMPMEADOW_COS = 0x13,      /* cosine of radians                  |x| to 1024                 1 -> 0.540483773      */
+    DAMPMEADOW_SIN = 0x14,      /* sine of radians                    |x| to 1024                 1 -> 0.842167795      */
+    DAMPMEADOW_HYPOT = 0x15     /* length of (x, y)                   the larger size from 2^-60  3, 4 -> 5.125         */
+                                /*                                    to 2^60                                           */
 };
 
 /* Added to an operation, it asks for the raw form: DAMPMEADOW_RAW + DAMPMEADOW_SQRT. A raw form answers every word with the
- * bits that micromath gives, a NaN and an infinity among them: raw sqrt of 0 is 0x1fc00000, and of -0 0x5fc00000. Where
- * micromath leaves the bits open (a NaN that arithmetic makes, exp of a NaN) or does not end (powi to -2^31) they are settled
- * here; docs/DIFFERENCES.md has the three.
+ * bits that micromath gives, a NaN and an infinity among them: raw sqrt of 0 is 0x1fc00000, and of -0 0x5fc00000. Four cases
+ * are settled here: a NaN is 0x7fc00000, but from abs, copysign, inv and invsqrt, whether micromath's arithmetic made it or its
+ * exp put it together from bits; exp of a NaN; and powi to -2^31, where micromath may not end. docs/DIFFERENCES.md has them.
  */
 #define DAMPMEADOW_RAW 0x80u
 

@@ -64,15 +64,17 @@ int main(void)
     gives("invsqrt 1", DAMPMEADOW_INVSQRT, 1.0f, 0, 0.966225028f);
     gives("inv 1.5", DAMPMEADOW_INV, 1.5f, 0, 0.75f);
     gives("recip 4", DAMPMEADOW_RECIP, 4.0f, 0, 0.250000119f);
-    gives("exp 1", DAMPMEADOW_EXP, 1.0f, 0, 2.71828175f);
-    gives("ln 2", DAMPMEADOW_LN, 2.0f, 0, 0.693207741f);
+    gives("exp 0.5", DAMPMEADOW_EXP, 0.5f, 0, 1.6484375f);
+    gives("ln 0.75", DAMPMEADOW_LN, 0.75f, 0, -0.405448198f);
+    gives("ln 0.99", DAMPMEADOW_LN, 0.99f, 0, -0.0198061466f);
     gives("powi 3 3", DAMPMEADOW_POWI, 3.0f, 3, 27.0f);
     gives("powi 2 -1", DAMPMEADOW_POWI, 2.0f, (uint32_t)-1, 0.5f);
-    gives("powf 4 0.5", DAMPMEADOW_POWF, 4.0f, dampmeadow_bits(0.5f), 2.00006056f);
-    gives("atan 1", DAMPMEADOW_ATAN, 1.0f, 0, 0.785398185f);
+    gives("powf 0.75 2", DAMPMEADOW_POWF, 0.75f, dampmeadow_bits(2.0f), 0.444459558f);
+    gives("atan 0.5", DAMPMEADOW_ATAN, 0.5f, 0, 0.466342807f);
+    gives("atan2 1 2", DAMPMEADOW_ATAN2, 1.0f, dampmeadow_bits(2.0f), 0.466342807f);
     gives("atan2 1 0", DAMPMEADOW_ATAN2, 1.0f, 0, 1.57079637f);
-    gives("cos 0", DAMPMEADOW_COS, 0.0f, 0, 1.0f);
-    gives("sin 1.57079637", DAMPMEADOW_SIN, 1.57079637f, 0, 1.0f);
+    gives("cos 1", DAMPMEADOW_COS, 1.0f, 0, 0.540483773f);
+    gives("sin 1", DAMPMEADOW_SIN, 1.0f, 0, 0.842167795f);
     gives("hypot 3 4", DAMPMEADOW_HYPOT, 3.0f, dampmeadow_bits(4.0f), 5.125f);
 
     refuses("exp of a NaN", DAMPMEADOW_EXP, nan, 0, DAMPMEADOW_NOT_FINITE);

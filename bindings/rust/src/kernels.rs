@@ -140,19 +140,19 @@ pub fn recip(x: f32) -> Result<f32, Refusal> {
 ///
 /// ```
 /// use dampmeadow::{exp, Refusal};
-/// assert_eq!(exp(1.0), Ok(2.71828175));
+/// assert_eq!(exp(0.5), Ok(1.6484375)); // 1.64872 is true
 /// assert_eq!(exp(89.0), Err(Refusal::Outside));
 /// ```
 pub fn exp(x: f32) -> Result<f32, Refusal> {
     guarded(Operation::Exp, x.to_bits(), 0)
 }
 
-/// The natural logarithm. Takes x above 0.
+/// The natural logarithm. Takes x above 0. Below 1 it is up to 0.118 off: 0.99 gives -0.0198 for -0.01005.
 ///
 /// ```
 /// use dampmeadow::{ln, Refusal};
-/// assert_eq!(ln(1.0), Ok(0.0));
-/// assert_eq!(ln(2.0), Ok(0.693207741));
+/// assert_eq!(ln(0.75), Ok(-0.405448198)); // -0.28768 is true
+/// assert_eq!(ln(3.0), Ok(1.0985954));
 /// assert_eq!(ln(-2.0), Err(Refusal::Negative));
 /// ```
 pub fn ln(x: f32) -> Result<f32, Refusal> {
@@ -174,11 +174,12 @@ pub fn powi(x: f32, n: i32) -> Result<f32, Refusal> {
     guarded(Operation::Powi, x.to_bits(), n as u32)
 }
 
-/// x to the power n. Takes x above 0, where n times this library's [`ln`] of x, rounded, is from -87 to 88.
+/// x to the power n. Takes x above 0, where n times this library's [`ln`] of x, rounded, is from -87 to 88. Like that it is far
+/// off where x is below 1.
 ///
 /// ```
 /// use dampmeadow::{powf, Refusal};
-/// assert_eq!(powf(4.0, 0.5), Ok(2.00006056));
+/// assert_eq!(powf(0.75, 2.0), Ok(0.444459558)); // 0.5625 is true
 /// assert_eq!(powf(-4.0, 0.5), Err(Refusal::Negative));
 /// ```
 pub fn powf(x: f32, n: f32) -> Result<f32, Refusal> {
@@ -189,7 +190,7 @@ pub fn powf(x: f32, n: f32) -> Result<f32, Refusal> {
 ///
 /// ```
 /// use dampmeadow::{atan, Refusal};
-/// assert_eq!(atan(1.0), Ok(0.785398185));
+/// assert_eq!(atan(0.5), Ok(0.466342807)); // 0.46365 is true
 /// assert_eq!(atan(1.0e20), Err(Refusal::Outside));
 /// ```
 pub fn atan(x: f32) -> Result<f32, Refusal> {
@@ -200,6 +201,7 @@ pub fn atan(x: f32) -> Result<f32, Refusal> {
 ///
 /// ```
 /// use dampmeadow::{atan2, Refusal};
+/// assert_eq!(atan2(1.0, 2.0), Ok(0.466342807));
 /// assert_eq!(atan2(1.0, 0.0), Ok(1.57079637));
 /// assert_eq!(atan2(0.0, 0.0), Err(Refusal::Outside));
 /// ```
@@ -212,6 +214,7 @@ pub fn atan2(y: f32, x: f32) -> Result<f32, Refusal> {
 /// ```
 /// use dampmeadow::{cos, Refusal};
 /// assert_eq!(cos(0.0), Ok(1.0));
+/// assert_eq!(cos(1.0), Ok(0.540483773)); // 0.54030 is true
 /// assert_eq!(cos(2000.0), Err(Refusal::Outside));
 /// ```
 pub fn cos(x: f32) -> Result<f32, Refusal> {
@@ -222,7 +225,7 @@ pub fn cos(x: f32) -> Result<f32, Refusal> {
 ///
 /// ```
 /// use dampmeadow::{sin, Refusal};
-/// assert_eq!(sin(1.57079637), Ok(1.0));
+/// assert_eq!(sin(1.0), Ok(0.842167795)); // 0.84147 is true
 /// assert_eq!(sin(2000.0), Err(Refusal::Outside));
 /// ```
 pub fn sin(x: f32) -> Result<f32, Refusal> {

@@ -20,7 +20,7 @@
 //! [`Refusal::Black`].
 //!
 //! The kernels are those of micromath, to the bit: quick estimates, some of them percents off. [`raw`] gives what micromath
-//! gives for every word, NaN and infinity among them, but for three cases that docs/DIFFERENCES.md lists. [`call`] takes any
+//! gives for every word, NaN and infinity among them, but for four cases that docs/DIFFERENCES.md lists. [`call`] takes any
 //! operation by its number, and [`answer`] a frame, which is a line of text. Nothing is kept between calls, so they may be made
 //! from any thread.
 //!
