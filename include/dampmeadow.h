@@ -7,7 +7,8 @@
  *
  * The library needs no other one, not even the C library. It keeps nothing between calls, so any number of threads may call
  * it at once. It counts on the processor's usual float settings: rounding to nearest, and numbers too small to be normal
- * kept as they are. (A program linked with -ffast-math may start with other settings, and then the answers are not ours.)
+ * kept as they are. (A program linked with -ffast-math may start with other settings, and then the answers are not ours:
+ * docs/GUIDE.md has what changes.)
  *
  * A float goes in and comes out as its 32 bits, its "word": 4.0f is 0x40800000. dampmeadow_bits and dampmeadow_float, below,
  * go from one to the other. Words, and not floats, because a NaN's bits may change when it is handed on as a float.
