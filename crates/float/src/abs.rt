@@ -1,4 +1,5 @@
 // The absolute value: the sign bit cleared, every other bit as it was.
+// Method: https://bits.stephan-brumme.com/absFloat.html
 ghost use mathlib.Core.Path.{_≡_};
 ghost use mathlib.Core.Bool.{false};
 ghost use lib.Ieee.{binary32};

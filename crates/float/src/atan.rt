@@ -1,4 +1,5 @@
 // The arctangent of a number, in radians and as a share of a quarter turn, by a quotient of parabolas.
+// Method: https://ieeexplore.ieee.org/document/6375931
 ghost use mathlib.Core.Path.{_≡_};
 ghost use Rattle.float.specs.Engine.{ieee};
 ghost use Rattle.float.specs.Atan.{atanNormWord, atanWord};

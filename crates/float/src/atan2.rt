@@ -1,4 +1,5 @@
 // The angle of a point, from its two coordinates, in all four quadrants.
+// Method: https://ieeexplore.ieee.org/document/6375931
 ghost use mathlib.Core.Path.{_≡_};
 ghost use Rattle.float.specs.Atan2.{offset, quarters, atan2Word};
 use crate::F32;

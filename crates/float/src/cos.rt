@@ -1,4 +1,6 @@
 // The cosine of a number in radians, by a parabola in turns.
+// Method: https://stackoverflow.com/posts/28050328/revisions, after Nick Capen:
+// https://web.archive.org/web/20180105200343if_/http://forum.devmaster.net/t/fast-and-accurate-sine-cosine/9648
 ghost use mathlib.Core.Path.{_≡_};
 ghost use Rattle.float.specs.Engine.{ieee};
 ghost use Rattle.float.specs.Cos.{cosWord};

@@ -1,5 +1,6 @@
 // E raised to a number: a power of 2, whose whole exponent is set as bits and the rest found by a
 // series.
+// Method: https://stackoverflow.com/a/6985769/2036035, and the series: https://stackoverflow.com/a/6984495
 ghost use mathlib.Core.Path.{_≡_};
 ghost use lib.IntN.{_+ℤ_};
 ghost use Rattle.float.specs.Exp.{series, clipped, scaledWord, powerWord, expWord};

@@ -1,5 +1,6 @@
 // The inverse, estimated by one subtraction of words that wraps. From 2^-126 to 2^126 the answer
 // times the number lies from 1 to 9/8 (`InvBound`).
+// Method: https://bits.stephan-brumme.com/inverse.html
 ghost use mathlib.Core.Path.{_≡_};
 ghost use lib.Ieee.{binary32};
 ghost use Rattle.format.specs.Estimates.{invWord, Invertible, InvBound};

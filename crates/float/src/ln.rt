@@ -1,5 +1,6 @@
 // The natural logarithm: the exponent times ln 2, and a polynomial for what is left, from 1 to 2. A
 // number below 1 goes through inv and loses what inv does.
+// Method: https://stackoverflow.com/a/44232045/
 ghost use mathlib.Core.Path.{_≡_};
 ghost use Rattle.float.specs.Ln.{polynomial, logarithm, lnWord};
 use crate::F32;

@@ -1,4 +1,5 @@
 // A number raised to an integer power, by squaring.
+// Method: https://stackoverflow.com/a/101613
 ghost use mathlib.Core.Path.{_≡_};
 ghost use mathlib.Core.Bool.{cond, _&&_};
 ghost use Prim.Native.Nat.{_%_};
