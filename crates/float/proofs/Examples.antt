@@ -1,4 +1,4 @@
--- Document 01's examples as one table over the definitions, and one test that every row's word is the one expected. Assumes nothing.
+-- Worked examples as one table over the definitions, and one test that every row's word is the one expected. Assumes nothing.
 use mathlib.Core.Bool.{true}
 use mathlib.Core.List.{List, [], _∷_}
 use mathlib.Core.Path.{_≡_, refl}

@@ -1,4 +1,4 @@
--- A frame as document 01 has it: a line of 18 lower-case hexadecimal digits, the operation, the first word and the second; and its answer,
+-- A frame on the bench: a line of 18 lower-case hexadecimal digits, the operation, the first word and the second; and its answer,
 -- 11 bytes. Definitions only.
 use Prim.Native.Nat.{ℕ, zero, suc, _+_, _-_, _*_, _/_, _%_, _^_}
 use mathlib.Core.Bool.{Bool, true, cond, _&&_, _||_}

@@ -1,4 +1,4 @@
--- What the answer of a guarded call is in document 01's terms: a refusal's number with the zero word, or a word that is no NaN. Assumes nothing.
+-- What the answer of a guarded call is as words: a refusal's number with the zero word, or a word that is no NaN. Assumes nothing.
 use Prim.Native.Nat.{ℕ, zero, suc, _^_, _<_}
 use mathlib.Core.Path.{_≡_, refl, sym, ap, subst, _∙_}
 use mathlib.Core.Bool.{Bool, false, not, cond}

@@ -1,4 +1,4 @@
--- What a guarded call answers, and how document 01 writes an answer: a refusal's number, 0 where there is none, and words. Definitions only.
+-- What a guarded call answers, and the answer as words: a refusal's number, 0 where there is none, and one word or two. Definitions only.
 use Prim.Native.Nat.{ℕ, zero, suc}
 use mathlib.Core.Path.{_≡_}
 use mathlib.Core.Bool.{cond}
@@ -12,7 +12,7 @@ use Rattle.guard.specs.declared.Answer.{Answer}
 use Rattle.guard.specs.Operations.{opTrunc}
 use Rattle.guard.specs.Refusals.{refusalOf}
 
--- ---- an answer in document 01's terms
+-- ---- an answer as words
 
 abbrev pub refusalIn : Guarded → ℕ
 refusalIn (Number x) = 0
@@ -58,7 +58,7 @@ abbrev pub given : ℕ → Guarded → Answer
 given zero g = record { result = g }
 given (suc n) g = refusedWith (suc n)
 
--- the answer r is the refusal n, or where n is 0 the number whose word is w; and what that is in document 01's terms
+-- the answer r is the refusal n, or where n is 0 the number whose word is w; and what that is as words
 pub record Gives (n w : ℕ) (r : Answer) : Type 0 where
   pub answer : r ≡ given n (Number (ofBits binary32 w))
   pub refusal : refusalGiven r ≡ n

@@ -1,4 +1,4 @@
--- Document 01's number for each guarded operation, and lists of them. Definitions only.
+-- The number of each guarded operation in a frame, and lists of them. Definitions only.
 use Prim.Native.Nat.{ℕ}
 use mathlib.Core.Bool.{Bool, false, _||_}
 use mathlib.Core.List.{List, [], _∷_}

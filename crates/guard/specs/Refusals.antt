@@ -1,5 +1,5 @@
--- The refusals 1 to 5 in document 01's order: each has its number, the operations that can give it, and when it holds. The first that
--- holds is given. Definitions only.
+-- The refusals 1 to 5 in the order in which they are judged: each has its number, the operations that can give it, and when it holds.
+-- The first that holds is given. Definitions only.
 use Prim.Native.Nat.{ℕ, _^_}
 use mathlib.Core.Bool.{Bool, true, cond, not, _&&_}
 use mathlib.Core.List.{List, [], _∷_}

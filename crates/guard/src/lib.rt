@@ -1,5 +1,5 @@
 // The light gate: each kernel guarded, so that a call gives a number or one numbered refusal and
-// never both, exactly when document 01's table says so. `frame` answers its guarded frames by it.
+// never both, exactly when the list of refusals says so. `frame` answers its guarded frames by it.
 ghost use mathlib.Core.Path.{_≡_};
 ghost use mathlib.Core.Bool.{false};
 ghost use lib.Ieee.{binary32, nanBits};

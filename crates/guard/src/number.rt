@@ -1,4 +1,4 @@
-// Document 01's number for each guarded operation. A raw one's is this and 80.
+// The number of each guarded operation in a frame. A raw one's is this and 80.
 pub const TRUNC: u32 = 0x01;
 
 pub const FRACT: u32 = 0x02;

@@ -1,4 +1,4 @@
-// The refusals 1 to 5: when each holds, and which is the first in document 01's order.
+// The refusals 1 to 5: when each holds, and which is the first in the list's order.
 ghost use mathlib.Core.Path.{_≡_};
 ghost use mathlib.Core.Bool.{_&&_};
 ghost use mathlib.Core.List.{[], _∷_};

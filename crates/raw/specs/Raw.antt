@@ -1,4 +1,4 @@
--- Every raw kernel under document 01's number for it, and what it does with two words. Definitions only.
+-- Every raw kernel under its number in a frame, without the 80 that marks a raw one, and what it does with two words. Definitions only.
 use Prim.Native.Nat.{ℕ}
 use mathlib.Core.List.{List, [], _∷_}
 use lib.ListN.{getD}

@@ -1,4 +1,4 @@
-// The raw kernels by document 01's number for each, without the 80 that marks a raw frame. `frame`
+// The raw kernels by the number of each in a frame, without the 80 that marks a raw one. `frame`
 // answers its raw frames by it, and `guard` states its laws over the list.
 ghost use mathlib.Core.Path.{_≡_};
 ghost use Rattle.raw.specs.Raw.{kernelOf, operandsOf, rawOf};
