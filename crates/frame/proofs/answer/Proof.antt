@@ -73,8 +73,7 @@ loop-again c =
 pub answer-spec : {M : Type 1} → statement M
 unfolding answerBytes
 answer-spec =
-    tie.close
-    (tie.spec
+    let met = tie.spec
     Inv-loop
     μ-loop
     (λ c. (rw (lt-ltb _ 11 (c .if1 .taken)), rw (lt-ltb _ 11 (c .if1 .taken))))
@@ -94,4 +93,5 @@ answer-spec =
     let e : l .i ≡ 10 = omega (arith, l .inv .0, c .loop-test .left) in
     let x = c .before .before .of-line .ensures in
     let w = last (c .before .before .of-line .result) (l .i) (space (c .before)) (l .space) (l .inv .1) e (room (c .before)) in
-    (rw (le-ltb _ 11 (room (c .before)), x), w ∙ rw (le-ltb _ 11 (room (c .before)), x))))
+    (rw (le-ltb _ 11 (room (c .before)), x), w ∙ rw (le-ltb _ 11 (room (c .before)), x))) in
+    tie.close met

@@ -19,8 +19,7 @@ frame c = frame-of _ (is-one c)
 pub of-line-spec : {M : Type 1} → statement M
 unfolding lineWords
 of-line-spec =
-    tie.close
-    (tie.spec
+    let met = tie.spec
     (λ c κs. search needs)
     (λ c κs. search needs)
     (λ c. c .refused .ensures ∙ sym (rw (sym (c .before .before .is-frame .ensures) ∙ not-true (c .before .before .is-frame .result) (c .before .if1 .taken))))
@@ -30,4 +29,5 @@ of-line-spec =
     (λ c κs. search needs)
     (λ c.
     c .answer .ensures
-    ∙ sym (rw (is-one (c .before .before .before .before), sym (c .before .before .before .number .ensures), sym (c .before .before .number2 .ensures), sym (c .before .number3 .ensures)))))
+    ∙ sym (rw (is-one (c .before .before .before .before), sym (c .before .before .before .number .ensures), sym (c .before .before .number2 .ensures), sym (c .before .number3 .ensures)))) in
+    tie.close met

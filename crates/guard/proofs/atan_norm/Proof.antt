@@ -8,8 +8,7 @@ use Rattle.guard.proofs.atan_norm.Tie as tie
 
 pub atan-norm-spec : {M : Type 1} → statement M
 atan-norm-spec =
-    tie.close
-    (tie.spec
+    let met = tie.spec
     (λ c κs. search needs)
     (λ c κs. search needs)
     (λ c κs. search needs)
@@ -17,4 +16,5 @@ atan-norm-spec =
     (λ c.
     let word = c .before .before .before .before .args .slope .0 in
     let judged = own-gate opAtan word 0 _ _ (c .before .before .first .ensures) (c .before .before .before .of .ensures) in
-    kept _ _ _ _ _ (c .answered .ensures) judged (c .before .atan-norm .ensures) (atan-norm-no-nan word)))
+    kept _ _ _ _ _ (c .answered .ensures) judged (c .before .atan-norm .ensures) (atan-norm-no-nan word)) in
+    tie.close met

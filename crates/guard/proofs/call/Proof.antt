@@ -29,8 +29,7 @@ missing op a b e = rw e (refused 6 0 (suc-ne-zero 5))
 pub call-spec : {M : Type 1} → statement M
 unfolding refusalBehind judged
 call-spec =
-    tie.close
-    (tie.spec
+    let met = tie.spec
     (λ c κs. search needs)
     (λ c κs. search needs)
     (λ c κs. search needs)
@@ -75,4 +74,5 @@ call-spec =
     (λ c. rw (c .before .match .keys19) (c .cos .ensures))
     (λ c. rw (c .before .match .keys20) (c .sin .ensures))
     (λ c. rw (c .before .match .keys21) (c .hypot .ensures))
-    (λ c. let args = c .before .before .args in rw (c .refused .ensures) (missing (args .op) (args .a) (args .b) (unlisted (args .op) (c .before .match .rest)))))
+    (λ c. let args = c .before .before .args in rw (c .refused .ensures) (missing (args .op) (args .a) (args .b) (unlisted (args .op) (c .before .match .rest)))) in
+    tie.close met

@@ -7,8 +7,7 @@ use Rattle.guard.proofs.ln.Tie as tie
 
 pub ln-spec : {M : Type 1} → statement M
 ln-spec =
-    tie.close
-    (tie.spec
+    let met = tie.spec
     (λ c κs. search needs)
     (λ c κs. search needs)
     (λ c κs. search needs)
@@ -16,4 +15,5 @@ ln-spec =
     (λ c.
     let args = c .before .before .before .before .args in
     guards opLn (args .x .0) 0 _ _ _ _ (search needs) (search needs)
-    (c .before .before .before .of .ensures) (c .before .before .first .ensures) (c .before .ln .ensures) (c .answered .ensures)))
+    (c .before .before .before .of .ensures) (c .before .before .first .ensures) (c .before .ln .ensures) (c .answered .ensures)) in
+    tie.close met

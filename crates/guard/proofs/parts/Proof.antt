@@ -13,8 +13,7 @@ judged c = own-gate opTrunc (c .before .before .args .x .0) 0 _ _ (c .first .ens
 
 pub parts-spec : {M : Type 1} → statement M
 parts-spec =
-    tie.close
-    (tie.spec
+    let met = tie.spec
     (λ c κs. search needs)
     (λ c κs. search needs)
     (λ c κs. search needs)
@@ -27,4 +26,5 @@ parts-spec =
     let tested = c .before .before .before .before in
     rw (c .before .before .value .ensures, c .value2 .ensures)
     (both-answered (tested .before .before .before .args .x .0) (search needs) (sym (judged (tested .before)) ∙ tested .if1 .left) _ _ (search needs) (search needs) (c .before .before .before .trunc .ensures .0)
-    (c .before .fract .ensures .0))))
+    (c .before .fract .ensures .0))) in
+    tie.close met

@@ -15,8 +15,7 @@ word-is c = c .bits-of-i32 .ensures ∙ ap (ofZ w32) (toZ-ofZ (c .before .before
 
 pub powi-spec : {M : Type 1} → statement M
 powi-spec =
-    tie.close
-    (tie.spec
+    let met = tie.spec
     (λ c κs. search needs)
     (λ c κs. search needs)
     (λ c κs. search needs)
@@ -27,4 +26,5 @@ powi-spec =
     let args = bits .before .before .args in
     let power = word-is bits in
     guards opPowi (args .x .0) (ofZ w32 (args .n)) _ _ _ _ (search needs) (subst (λ (w : ℕ). w < 2 ^ 32) power (search needs))
-    (bits .before .of .ensures) (c .before .before .first .ensures ∙ rw power) (c .before .powi .ensures) (c .answered .ensures)))
+    (bits .before .of .ensures) (c .before .before .first .ensures ∙ rw power) (c .before .powi .ensures) (c .answered .ensures)) in
+    tie.close met

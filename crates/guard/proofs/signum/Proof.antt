@@ -7,8 +7,7 @@ use Rattle.guard.proofs.signum.Tie as tie
 
 pub signum-spec : {M : Type 1} → statement M
 signum-spec =
-    tie.close
-    (tie.spec
+    let met = tie.spec
     (λ c κs. search needs)
     (λ c κs. search needs)
     (λ c κs. search needs)
@@ -16,4 +15,5 @@ signum-spec =
     (λ c.
     let args = c .before .before .before .before .args in
     guards opSignum (args .x .0) 0 _ _ _ _ (search needs) (search needs)
-    (c .before .before .before .of .ensures) (c .before .before .first .ensures) (c .before .signum .ensures) (c .answered .ensures)))
+    (c .before .before .before .of .ensures) (c .before .before .first .ensures) (c .before .signum .ensures) (c .answered .ensures)) in
+    tie.close met

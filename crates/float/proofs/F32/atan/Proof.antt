@@ -7,9 +7,9 @@ use Rattle.float.proofs.F32.atan.Tie as tie
 pub atan-spec : {M : Type 1} → statement M
 unfolding atanWord
 atan-spec =
-    tie.close
-    (tie.spec
+    let met = tie.spec
     (λ c κs. search needs)
     (λ c κs. search needs)
     (λ c κs. search needs)
-    (λ c. cc))
+    (λ c. cc) in
+    tie.close met

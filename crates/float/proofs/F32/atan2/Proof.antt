@@ -15,8 +15,7 @@ picked y x q b e t = rw (← t, e)
 
 pub atan2-spec : {M : Type 1} → statement M
 atan2-spec =
-    tie.close
-    (tie.spec
+    let met = tie.spec
     (λ c κs. search needs)
     (λ c κs. search needs)
     (λ c.
@@ -25,4 +24,5 @@ atan2-spec =
     (λ c κs. search needs)
     (λ c.
     let asked = c .before .before in
-    c .of2 .ensures ∙ picked (asked .before .args .self .0) (asked .before .args .rhs .0) _ _ (asked .quarters .ensures) (c .before .if1 .left)))
+    c .of2 .ensures ∙ picked (asked .before .args .self .0) (asked .before .args .rhs .0) _ _ (asked .quarters .ensures) (c .before .if1 .left)) in
+    tie.close met

@@ -15,8 +15,7 @@ answer-is c = cc
 
 pub atan-norm-spec : {M : Type 1} → statement M
 atan-norm-spec =
-    tie.close
-    (tie.spec
+    let met = tie.spec
     (λ c κs. search needs)
     (λ c κs. search needs)
     (λ c κs. search needs)
@@ -29,4 +28,5 @@ atan-norm-spec =
     let found = tested .before in
     or-answered (found .before .before .before .args .self .0) (found .of .result .0) (c .before .struct-known .given .0 .fits) (c .struct-known2 .given .0 .fits)
     (sym (tested .is-nan .ensures) ∙ c .before .before .if1 .left)
-    ∙ answer-is found))
+    ∙ answer-is found) in
+    tie.close met

@@ -24,8 +24,7 @@ down-is c =
 
 pub ceil-spec : {M : Type 1} → statement M
 ceil-spec =
-    tie.close
-    (tie.spec
+    let met = tie.spec
     (λ c κs. search needs)
     (λ c.
     let w = c .before .before .before .args .self .0 in
@@ -34,4 +33,5 @@ ceil-spec =
     (turn-sign binary32 (c .before .floor .result .0) (c .struct-known2 .given .0 .fits)
     ∙ ap (turnedWord binary32) (down-is (c .before))
     ∙ sym (turned-written binary32 (floorValue binary32 x) (floor-fits binary32 x) (floor-no-nan binary32 x)))
-    (ceil-is w)))
+    (ceil-is w)) in
+    tie.close met

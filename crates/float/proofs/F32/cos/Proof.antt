@@ -7,11 +7,11 @@ use Rattle.float.proofs.F32.cos.Tie as tie
 pub cos-spec : {M : Type 1} → statement M
 unfolding cosWord
 cos-spec =
-    tie.close
-    (tie.spec
+    let met = tie.spec
     (λ c κs. search needs)
     (λ c κs. search needs)
     (λ c κs. search needs)
     (λ c κs. search needs)
     (λ c κs. search needs)
-    (λ c. cc))
+    (λ c. cc) in
+    tie.close met

@@ -7,8 +7,7 @@ use Rattle.float.proofs.F32.exp.Tie as tie
 pub exp-spec : {M : Type 1} → statement M
 unfolding expWord
 exp-spec =
-    tie.close
-    (tie.spec
+    let met = tie.spec
     (λ c κs. search needs)
     (λ c. rw (← c .before .value .ensures, c .if1 .taken))
     (λ c κs. search needs)
@@ -26,4 +25,5 @@ exp-spec =
     (λ c.
     let other = c .before .before .before in
     let one = other .before .before in
-    rw (← one .before .before .value .ensures, one .before .if1 .left, ← one .is-at .ensures, other .before .if2 .left, ← other .is-at2 .ensures, c .before .before .if3 .left) (cc)))
+    rw (← one .before .before .value .ensures, one .before .if1 .left, ← one .is-at .ensures, other .before .if2 .left, ← other .is-at2 .ensures, c .before .before .if3 .left) (cc)) in
+    tie.close met

@@ -14,9 +14,9 @@ field-less c = let h : c .extract-exponent-bits .result < 2 ^ 31 = omega arith i
 
 pub extract-exponent-value-spec : {M : Type 1} → statement M
 extract-exponent-value-spec =
-    tie.close
-    (tie.spec
+    let met = tie.spec
     (λ c κs. search needs)
     (λ c. search needs)
     (λ c. field-less c .subs)
-    (λ c. field-less c .is ∙ ap (λ (x : ℕ). minus x 127) (c .extract-exponent-bits .ensures)))
+    (λ c. field-less c .is ∙ ap (λ (x : ℕ). minus x 127) (c .extract-exponent-bits .ensures)) in
+    tie.close met

@@ -50,8 +50,7 @@ nothing-written = refl
 
 pub fract-spec : {M : Type 1} → statement M
 fract-spec =
-    tie.close
-    (tie.spec
+    let met = tie.spec
     (λ c κs. search needs)
     (λ c.
     let w = c .before .before .args .self .0 in
@@ -81,4 +80,5 @@ fract-spec =
     (c .copysign2 .ensures .0
     ∙ ap (λ (n : ℕ). s + n) (mod-eq-of-lt (led (c .before) .small) ∙ led (c .before) .is)
     ∙ past w _ _ (c .before .before .before .before .before .extract-exponent-bits .ensures) (c .before .before .before .before .if1 .left) (below (c .before .before)))
-    (fract-under32 w)))
+    (fract-under32 w)) in
+    tie.close met

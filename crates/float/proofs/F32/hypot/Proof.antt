@@ -7,10 +7,10 @@ use Rattle.float.proofs.F32.hypot.Tie as tie
 pub hypot-spec : {M : Type 1} → statement M
 unfolding hypotWord
 hypot-spec =
-    tie.close
-    (tie.spec
+    let met = tie.spec
     (λ c κs. search needs)
     (λ c κs. search needs)
     (λ c κs. search needs)
     (λ c κs. search needs)
-    (λ c. cc (c .sqrt .ensures .0)))
+    (λ c. cc (c .sqrt .ensures .0)) in
+    tie.close met

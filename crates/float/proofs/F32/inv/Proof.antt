@@ -9,10 +9,10 @@ use Rattle.float.proofs.F32.inv.Tie as tie
 
 pub inv-spec : {M : Type 1} → statement M
 inv-spec =
-    tie.close
-    (tie.spec
+    let met = tie.spec
     (λ c κs. search needs)
     (λ c.
     let w = c .before .args .self .0 in
     let e = c .difference .ensures in
-    (e, λ i. subst (InvBound binary32 w) (sym e) (inv-bound binary32 w i))))
+    (e, λ i. subst (InvBound binary32 w) (sym e) (inv-bound binary32 w i))) in
+    tie.close met

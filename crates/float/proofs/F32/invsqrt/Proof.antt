@@ -8,12 +8,12 @@ use Rattle.float.proofs.F32.invsqrt.Tie as tie
 
 pub invsqrt-spec : {M : Type 1} → statement M
 invsqrt-spec =
-    tie.close
-    (tie.spec
+    let met = tie.spec
     (λ c κs. search needs)
     (λ c.
     let w = c .before .before .args .self .0 in
     let e = c .difference .ensures in (
       e,
       ((λ n. subst (InvsqrtBound w) (sym e) (invsqrt-bound w n)), (λ n. subst (InvsqrtTight w) (sym e) (invsqrt-tight w n))),
-    )))
+    )) in
+    tie.close met

@@ -35,8 +35,7 @@ back-is c = toZ-ofZ (record { sfits = c .to-i32 .ok })
 
 pub is-even-spec : {M : Type 1} → statement M
 is-even-spec =
-    tie.close
-    (tie.spec
+    let met = tie.spec
     (λ c κs. search needs)
     (λ c. search needs)
     (λ c. rw (le-leb 158 _ (subst (λ (x : ℕ). 158 ≤ x) (c .before .extract-exponent-bits .ensures) (c .if1 .taken))))
@@ -45,4 +44,5 @@ is-even-spec =
     (λ c.
     ap (λ (z : ℤ). eqb (ofZ w32 (remZ z (pos 2))) 0) (back-is c)
     ∙ even-is (c .to-i32 .result)
-    ∙ rw (c .to-i32 .ensures, lt-leb 158 _ (subst (λ (x : ℕ). x < 158) (c .before .before .extract-exponent-bits .ensures) (c .before .if1 .left)))))
+    ∙ rw (c .to-i32 .ensures, lt-leb 158 _ (subst (λ (x : ℕ). x < 158) (c .before .before .extract-exponent-bits .ensures) (c .before .if1 .left)))) in
+    tie.close met

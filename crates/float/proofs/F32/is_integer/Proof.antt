@@ -9,8 +9,8 @@ use Rattle.float.proofs.F32.is_integer.Tie as tie
 
 pub is-integer-spec : {M : Type 1} → statement M
 is-integer-spec =
-    tie.close
-    (tie.spec
+    let met = tie.spec
     (λ c κs. search needs)
     (λ c κs. search needs)
-    (λ c. ap (λ (x : ℕ). eqb x 0) (masked (c .before .before .args .self .0) _ _ (c .before .exponent-clamped .ensures) (c .shl .ensures))))
+    (λ c. ap (λ (x : ℕ). eqb x 0) (masked (c .before .before .args .self .0) _ _ (c .before .exponent-clamped .ensures) (c .shl .ensures))) in
+    tie.close met

@@ -6,4 +6,6 @@ use Rattle.float.proofs.F32.is_sign_positive.Statement.{statement}
 use Rattle.float.proofs.F32.is_sign_positive.Tie as tie
 
 pub is-sign-positive-spec : {M : Type 1} → statement M
-is-sign-positive-spec = tie.close (tie.spec (λ c κs. search needs) (λ c. ap not (c .is-sign-negative .ensures)))
+is-sign-positive-spec =
+    let met = tie.spec (λ c κs. search needs) (λ c. ap not (c .is-sign-negative .ensures)) in
+    tie.close met

@@ -7,8 +7,7 @@ use Rattle.float.proofs.F32.ln.Tie as tie
 pub ln-spec : {M : Type 1} → statement M
 unfolding lnWord
 ln-spec =
-    tie.close
-    (tie.spec
+    let met = tie.spec
     (λ c κs. search needs)
     (λ c κs. search needs)
     (λ c.
@@ -26,4 +25,5 @@ ln-spec =
     (λ c.
     let test = c .before .before in
     let asked = test .before .before in
-    rw (← asked .before .value .ensures, ← asked .is-at .ensures, test .before .if1 .left, test .if2 .left) (cc)))
+    rw (← asked .before .value .ensures, ← asked .is-at .ensures, test .before .if1 .left, test .if2 .left) (cc)) in
+    tie.close met

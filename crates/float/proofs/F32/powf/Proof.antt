@@ -30,8 +30,7 @@ size-is c =
 
 pub powf-spec : {M : Type 1} → statement M
 powf-spec =
-    tie.close
-    (tie.spec
+    let met = tie.spec
     (λ c κs. search needs)
     (λ c κs. search needs)
     (λ c.
@@ -60,4 +59,5 @@ powf-spec =
     ∙ ap (λ (x : Float). toBits binary32 (neg x)) (c .before .value2 .ensures ∙ ap (ofBits binary32) (size-is (even .before)))
     ∙ picked (start .args .self .0) (start .args .n .0) false true false (sym (test-is (even .before .before .before .before .before .before)) ∙ even .before .before .before .before .before .if1 .left)
     (sym (even .before .before .before .before .is-integer .ensures) ∙ not-false _ (even .before .before .before .if2 .left))
-    (sym (even .is-even .ensures) ∙ c .before .before .if3 .left)))
+    (sym (even .is-even .ensures) ∙ c .before .before .if3 .left)) in
+    tie.close met

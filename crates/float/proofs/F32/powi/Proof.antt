@@ -90,8 +90,7 @@ returns-7 c =
 pub powi-spec : {M : Type 1} → statement M
 unfolding powiWord
 powi-spec =
-    tie.close
-    (tie.spec
+    let met = tie.spec
     (λ c. rw (eq-eqb _ (2 ^ 31) (c .if1 .taken)))
     (λ c. simp (ne-eqb _ (2 ^ 31) (c .before .if1 .left), eq-eqb _ 0 (c .if2 .taken)))
     (λ c κs. search needs)
@@ -105,4 +104,5 @@ powi-spec =
     (λ c κs. search needs)
     returns-6
     (λ c κs. search needs)
-    returns-7)
+    returns-7 in
+    tie.close met

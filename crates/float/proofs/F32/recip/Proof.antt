@@ -7,8 +7,7 @@ use Rattle.float.proofs.F32.recip.Tie as tie
 pub recip-spec : {M : Type 1} → statement M
 unfolding recipWord
 recip-spec =
-    tie.close
-    (tie.spec
+    let met = tie.spec
     (λ c κs. search needs)
     (λ c κs. search needs)
     (λ c κs. search needs)
@@ -16,4 +15,5 @@ recip-spec =
     (λ c κs. search needs)
     (λ c κs. search needs)
     (λ c κs. search needs)
-    (λ c. cc))
+    (λ c. cc) in
+    tie.close met

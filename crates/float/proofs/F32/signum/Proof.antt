@@ -6,9 +6,9 @@ use Rattle.float.proofs.F32.signum.Tie as tie
 
 pub signum-spec : {M : Type 1} → statement M
 signum-spec =
-    tie.close
-    (tie.spec
+    let met = tie.spec
     (λ c κs. search needs)
     (λ c κs. search needs)
     (λ c. simp (sym (c .before .is-nan .ensures) ∙ c .if1 .taken))
-    (λ c. c .copysign .ensures .0 ∙ simp (sym (c .before .before .is-nan .ensures) ∙ c .before .if1 .left)))
+    (λ c. c .copysign .ensures .0 ∙ simp (sym (c .before .before .is-nan .ensures) ∙ c .before .if1 .left)) in
+    tie.close met

@@ -7,9 +7,9 @@ use Rattle.float.proofs.F32.sin.Tie as tie
 pub sin-spec : {M : Type 1} → statement M
 unfolding sinWord
 sin-spec =
-    tie.close
-    (tie.spec
+    let met = tie.spec
     (λ c κs. search needs)
     (λ c κs. search needs)
     (λ c κs. search needs)
-    (λ c. cc))
+    (λ c. cc) in
+    tie.close met

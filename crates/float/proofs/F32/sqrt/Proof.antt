@@ -32,8 +32,7 @@ halved w l e = sym (rw (e, mod-eq-of-lt {n = w + 0x3f80_0000} {m = 2 ^ 32} (omeg
 
 pub sqrt-spec : {M : Type 1} → statement M
 sqrt-spec =
-    tie.close
-    (tie.spec
+    let met = tie.spec
     (λ c κs. search needs)
     (λ c.
     let w = c .before .before .before .before .args .self .0 in
@@ -43,4 +42,5 @@ sqrt-spec =
     both w _ (halved w (omega arith) (sym (c .before .before .before .is-at-least-zero .ensures) ∙ c .before .before .if1 .taken)))
     (λ c.
     let w = c .before .before .args .self .0 in
-    both w _ (simp (sym (c .before .is-at-least-zero .ensures) ∙ c .if1 .left))))
+    both w _ (simp (sym (c .before .is-at-least-zero .ensures) ∙ c .if1 .left))) in
+    tie.close met

@@ -28,8 +28,7 @@ below c =
 
 pub trunc-spec : {M : Type 1} → statement M
 trunc-spec =
-    tie.close
-    (tie.spec
+    let met = tie.spec
     (λ c κs. search needs)
     (λ c κs. search needs)
     (λ c.
@@ -48,4 +47,5 @@ trunc-spec =
     both (IsTrunc binary32 w)
     (ap (λ (n : ℕ). w - n) (below (c .before))
     ∙ sym (rw (le-ltb (exponent binary32 w) 127 (subst (λ (x : ℕ). 127 ≤ x) (c .before .before .before .before .before .extract-exponent-bits .ensures) (c .before .before .before .before .if1 .left)))))
-    (trunc-under32 w (c .struct-known .given .0 .fits))))
+    (trunc-under32 w (c .struct-known .given .0 .fits))) in
+    tie.close met

@@ -14,9 +14,9 @@ made = refl
 
 pub value-spec : {M : Type 1} → statement M
 value-spec =
-    tie.close
-    (tie.spec
+    let met = tie.spec
     (λ c κs. search needs)
     (λ c. subst (λ (b : Bool). T (not b)) (sym (sym (c .before .before .is-nan .ensures) ∙ c .before .if1 .left)) tt)
     (λ c. made ∙ sym (nan-read binary32 (c .before .before .args .self .0) (sym (c .before .is-nan .ensures) ∙ c .if1 .taken)))
-    (λ c. search needs))
+    (λ c. search needs) in
+    tie.close met

@@ -8,8 +8,7 @@ use Rattle.float.proofs.atan2.quarters.Tie as tie
 pub quarters-spec : {M : Type 1} → statement M
 unfolding quarters
 quarters-spec =
-    tie.close
-    (tie.spec
+    let met = tie.spec
     (λ c κs. search needs)
     (λ c κs. search needs)
     (λ c κs. search needs)
@@ -21,4 +20,5 @@ quarters-spec =
     let signs = c .before .before .before .before in
     let divided = signs .before .before in
     let a = divided .before .before .before .before .args in
-    cc (signs-or (a .y .0) (a .x .0) (signs .struct-known2 .given .0 .fits) (signs .before .struct-known .given .0 .fits) (divided .of .result .0) (c .before .struct-known3 .given .0 .fits))))
+    cc (signs-or (a .y .0) (a .x .0) (signs .struct-known2 .given .0 .fits) (signs .before .struct-known .given .0 .fits) (divided .of .result .0) (c .before .struct-known3 .given .0 .fits))) in
+    tie.close met

@@ -12,10 +12,10 @@ past c =
 
 pub clipped-spec : {M : Type 1} → statement M
 clipped-spec =
-    tie.close
-    (tie.spec
+    let met = tie.spec
     (λ c κs. search needs)
     (λ c. sym (nan-casts (c .before .before .args .x .0) (sym (c .before .is-nan .ensures) ∙ c .if1 .taken)))
     (λ c κs. search needs)
     (λ c. sym (past (c .before) ∙ ap clipped (c .if2 .taken)))
-    (λ c. sym (past (c .before) ∙ ap clipped (c .if2 .left))))
+    (λ c. sym (past (c .before) ∙ ap clipped (c .if2 .left))) in
+    tie.close met

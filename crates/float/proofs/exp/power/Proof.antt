@@ -30,8 +30,7 @@ exponent-is c =
 pub power-spec : {M : Type 1} → statement M
 unfolding powerWord
 power-spec =
-    tie.close
-    (tie.spec
+    let met = tie.spec
     (λ c κs. search needs)
     (λ c κs. search needs)
     (λ c κs. search needs)
@@ -45,4 +44,5 @@ power-spec =
     let part = c .before .before .before .before .before in
     c .scaled .ensures
     ∙ ap (λ (w : ℕ). scaledWord w (toZ w32 (ofZ w32 (c .before .saturating-sum .result)))) (part-is part)
-    ∙ ap (scaledWord (seriesWord (part .before .before .before .before .args .log .0))) (exponent-is (c .before))))
+    ∙ ap (scaledWord (seriesWord (part .before .before .before .before .args .log .0))) (exponent-is (c .before))) in
+    tie.close met

@@ -28,8 +28,7 @@ module _ (w : ℕ) (z k : ℤ) (e : k ≡ z) where
 
 pub scaled-spec : {M : Type 1} → statement M
 scaled-spec =
-    tie.close
-    (tie.spec
+    let met = tie.spec
     (λ c. below (c .before .args .x .0) _ _ (toZ-ofZ (c .before .fits .exponent)) (c .if1 .taken))
     (λ c. past (c .before .before .args .x .0) _ _ (toZ-ofZ (c .before .before .fits .exponent)) (c .before .if1 .left) (c .if2 .taken))
     (λ c κs. search needs)
@@ -39,4 +38,5 @@ scaled-spec =
     let tested = c .before .before .before in
     c .of .ensures
     ∙ ap (toBits binary32) (c .before .value .ensures ∙ ap (ofBits binary32) (c .before .before .set-exponent .ensures))
-    ∙ within (tested .before .before .args .x .0) _ _ (toZ-ofZ (tested .before .before .fits .exponent)) (tested .before .if1 .left) (tested .if2 .left)))
+    ∙ within (tested .before .before .args .x .0) _ _ (toZ-ofZ (tested .before .before .fits .exponent)) (tested .before .if1 .left) (tested .if2 .left)) in
+    tie.close met

@@ -10,8 +10,7 @@ use Rattle.float.proofs.ln.logarithm.Tie as tie
 pub logarithm-spec : {M : Type 1} → statement M
 unfolding logarithm
 logarithm-spec =
-    tie.close
-    (tie.spec
+    let met = tie.spec
     (λ c κs. search needs)
     (λ c κs. search needs)
     (λ c κs. search needs)
@@ -20,4 +19,5 @@ logarithm-spec =
     (λ c κs. search needs)
     (λ c.
     let first = c .before .before .before .before .before .before in
-    cc (toZ-ofZ (record { sfits = first .extract-exponent-value .ok }), only-field binary32 (first .before .args .x .0))))
+    cc (toZ-ofZ (record { sfits = first .extract-exponent-value .ok }), only-field binary32 (first .before .args .x .0))) in
+    tie.close met

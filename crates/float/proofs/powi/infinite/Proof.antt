@@ -13,12 +13,12 @@ bit-is c = ap (λ (m : ℕ). m % 2) (c .magnitude .ensures ∙ ap natAbs (toZ-of
 
 pub infinite-spec : {M : Type 1} → statement M
 infinite-spec =
-    tie.close
-    (tie.spec
+    let met = tie.spec
     (λ c κs. search needs)
     (λ c. simp (sym (c .before .is-sign-positive .ensures) ∙ c .if1 .taken))
     (λ c κs. search needs)
     (λ c.
     simp (sym (c .before .before .before .is-sign-positive .ensures) ∙ c .before .before .if1 .left, eq-eqb _ 0 (sym (bit-is (c .before)) ∙ c .if2 .taken)))
     (λ c.
-    simp (sym (c .before .before .before .is-sign-positive .ensures) ∙ c .before .before .if1 .left, ne-eqb _ 0 (λ e. c .if2 .left (bit-is (c .before) ∙ e)))))
+    simp (sym (c .before .before .before .is-sign-positive .ensures) ∙ c .before .before .if1 .left, ne-eqb _ 0 (λ e. c .if2 .left (bit-is (c .before) ∙ e)))) in
+    tie.close met

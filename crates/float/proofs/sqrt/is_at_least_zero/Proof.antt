@@ -10,7 +10,7 @@ use Rattle.float.proofs.sqrt.is_at_least_zero.Tie as tie
 
 pub is-at-least-zero-spec : {M : Type 1} → statement M
 is-at-least-zero-spec =
-    tie.close
-    (tie.spec
+    let met = tie.spec
     (λ c. sym (at-least-zero binary32 _ (omega arith) ∙ rw (le-leb _ 0x7f80_0000 (c .if1 .taken))))
-    (λ c. sym (at-least-zero binary32 _ (omega arith) ∙ rw (lt-leb _ 0x7f80_0000 (c .before .if1 .left)))))
+    (λ c. sym (at-least-zero binary32 _ (omega arith) ∙ rw (lt-leb _ 0x7f80_0000 (c .before .if1 .left)))) in
+    tie.close met

@@ -47,8 +47,7 @@ raw op a b h = rw (le-leb 0x80 op h)
 
 pub answer-spec : {M : Type 1} → statement M
 answer-spec =
-    tie.close
-    (tie.spec
+    let met = tie.spec
     (λ c κs. search needs)
     (λ c κs. search needs)
     (λ c κs. search needs)
@@ -71,4 +70,5 @@ answer-spec =
     let well = sym (shape-is shaped) ∙ tested .before .if1 .left in
     c .of-answer .ensures
     ∙ guarded (args .op) (args .a) (args .b) (c .before .call .result) (tested .if2 .left) well (c .before .call .ensures)
-    ∙ sym (well-shaped _ _ well)))
+    ∙ sym (well-shaped _ _ well)) in
+    tie.close met

@@ -42,8 +42,7 @@ gate-is c = sym (c .passes .ensures ∙ rw (c .before .judged .ensures))
 pub first-spec : {M : Type 1} → statement M
 unfolding refusalBehind
 first-spec =
-    tie.close
-    (tie.spec
+    let met = tie.spec
     (λ c κs. search needs)
     (λ c. rw (sym (c .before .is-endless .ensures) ∙ c .if1 .taken))
     (λ c κs. search needs)
@@ -66,4 +65,5 @@ first-spec =
     sym (past-sign (e .before .before .before) ∙ rw (gate-is (e .before), not-false (e .before .passes .result) (e .if5 .left), sym (c .before .is-power-refused .ensures) ∙ c .if6 .taken)))
     (λ c.
     let e = c .before .before in
-    sym (past-sign (e .before .before .before) ∙ rw (gate-is (e .before), not-false (e .before .passes .result) (e .if5 .left), sym (c .before .is-power-refused .ensures) ∙ c .if6 .left))))
+    sym (past-sign (e .before .before .before) ∙ rw (gate-is (e .before), not-false (e .before .passes .result) (e .if5 .left), sym (c .before .is-power-refused .ensures) ∙ c .if6 .left))) in
+    tie.close met
