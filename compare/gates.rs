@@ -1,4 +1,4 @@
-//! Document 01's refusals 1 to 5, from its words and by the values of the operands. Nothing here is taken from the library,
+//! The specification's refusals 1 to 5, from its words and by the values of the operands. Nothing here is taken from the library,
 //! whose own table has the gates as bit patterns.
 
 use micromath::F32;

@@ -52,7 +52,7 @@ pub record IsRound (f : Format) (w r : ℕ) : Type 0 where
   pub near-below : 2 * (units f w - units f r) + 1 ≤ 2 ^ low f
   pub zero : units f r ≡ 0 → negative f r ≡ false
 
--- ---- the operands of binary32 for which the kernels have these meanings, by document 01's gates
+-- ---- the operands of binary32 for which the kernels have these meanings, by their gates
 
 -- |x| under 2 ^ 32: trunc and fract
 abbrev pub Under32 : ℕ → Type 0
