@@ -10,6 +10,7 @@ mod lines;
 mod reader;
 mod refusals;
 mod speed;
+mod steps;
 mod sweep;
 mod vectors;
 mod words;

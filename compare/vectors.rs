@@ -5,6 +5,7 @@ use crate::edges;
 use crate::kernels::Takes;
 use crate::lines::{frame, joined, Lines, BAD};
 use crate::reader::{written, Reader};
+use crate::steps;
 use std::io;
 use std::path::Path;
 
@@ -114,9 +115,10 @@ fn unused(reader: &Reader) -> Vec<Vec<u8>> {
     one_operand.flat_map(|(op, _)| words.map(|(a, b)| frame(op, a, b))).collect()
 }
 
-/// Both sides of each edge, guarded and raw.
+/// Both sides of each edge of a gate and of each test within a kernel, guarded and raw.
 fn edges(reader: &Reader) -> Vec<Vec<u8>> {
-    reader.known().into_iter().flat_map(|(op, kernel)| edges::words_of(kernel.name).into_iter().map(move |(a, b)| frame(op, a, b))).collect()
+    let words = |name| edges::words_of(name).into_iter().chain(steps::words_of(name));
+    reader.known().into_iter().flat_map(|(op, kernel)| words(kernel.name).map(move |(a, b)| frame(op, a, b))).collect()
 }
 
 /// Lines of no byte or one, in a row.
