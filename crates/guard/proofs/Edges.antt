@@ -1,13 +1,13 @@
--- Document 01's gates, both sides of every end, in one table of the definitions: the refusal of an operation and two words. And the ends
--- of the gates as the numbers that the document gives. Assumes nothing.
+-- Document 01's refusals in one table of the definitions: both sides of every end of a gate, and the operations that a refusal is about
+-- beside those that it is not. And the ends of the gates as the numbers that the document gives. Assumes nothing.
 use Prim.Native.Nat.{ℕ, _+_}
 use mathlib.Core.Path.{_≡_, refl}
 use mathlib.Core.Bool.{true, false}
-use mathlib.Core.List.{List, [], _∷_, map}
+use mathlib.Core.List.{List, [], _∷_, _++_, map}
 use lib.IntN.{pos, negsuc}
 use lib.Ieee.{fin, binary32, add, sub, mul, div, lt, nanBits, ofBits, toBits, ofInt}
 use Rattle.float.specs.Ln.{polynomial, logarithm, lnWord}
-use Rattle.guard.specs.Operations.{opTrunc, opFract, opFloor, opCeil, opRound, opCopysign, opSqrt, opInvsqrt, opInv, opRecip, opExp, opLn, opPowi, opPowf, opAtan, opAtan2, opCos, opSin, opHypot}
+use Rattle.guard.specs.Operations.{opTrunc, opFract, opFloor, opCeil, opRound, opAbs, opCopysign, opSignum, opSqrt, opInvsqrt, opInv, opRecip, opExp, opLn, opPowi, opPowf, opAtan, opAtan2, opCos, opSin, opHypot}
 use Rattle.guard.specs.Gates.{low, high, gateOf, judged}
 use Rattle.guard.specs.Refusals.{refusalBehind, refusalOf}
 
@@ -32,7 +32,7 @@ pub ends-are-numbers : map (ofBits binary32)
 unfolding ofBits
 ends-are-numbers = refl
 
--- ---- both sides of each: an operation, its two words, and the refusal
+-- ---- an operation, its two words, and the refusal
 
 pub record Case : Type 0 where
   pub op : ℕ
@@ -43,8 +43,9 @@ pub record Case : Type 0 where
 abbrev at : ℕ → ℕ → ℕ → ℕ → Case
 at op a b n = record { op = op; first = a; second = b; refusal = n }
 
-abbrev pub cases : List Case
-cases =
+-- both sides of each end
+abbrev pub ends : List Case
+ends =
     at opTrunc 0x4f7f_ffff 0x0000_0000 0
     ∷ at opTrunc 0xcf7f_ffff 0x0000_0000 0
     ∷ at opTrunc 0x4f80_0000 0x0000_0000 4
@@ -126,6 +127,35 @@ cases =
     ∷ at opSin 0x4480_0000 0x0000_0000 0
     ∷ at opSin 0x4480_0001 0x0000_0000 4
     ∷ []
+
+-- the same of several operations
+abbrev each : List ℕ → ℕ → ℕ → ℕ → List Case
+each ops a b n = map (λ op. at op a b n) ops
+
+-- One operand is a float, and takes all but the words in question; each list below stands beside the rest of these.
+abbrev pub lists : List Case
+lists =
+    -- 1: the first operand of each, before anything else, and the second of four
+    each (opTrunc ∷ opFract ∷ opFloor ∷ opCeil ∷ opRound ∷ opAbs ∷ opCopysign ∷ opSignum ∷ opSqrt ∷ opInvsqrt ∷ opInv ∷ opRecip ∷ opExp ∷ opLn ∷ opPowi ∷ opPowf ∷ opAtan ∷ opAtan2 ∷ opCos ∷ opSin ∷ opHypot ∷ []) 0xff80_0000 0x0000_0000 1
+    ++ each (opCopysign ∷ opPowf ∷ opAtan2 ∷ opHypot ∷ []) 0x3f80_0000 0x7f80_0000 1
+    ++ each (opCopysign ∷ opAtan2 ∷ opHypot ∷ opPowf ∷ []) 0x0000_0000 0x7f80_0000 1
+    ++ each (opTrunc ∷ opFract ∷ opFloor ∷ opCeil ∷ opRound ∷ opAbs ∷ opSignum ∷ opSqrt ∷ opInvsqrt ∷ opInv ∷ opRecip ∷ opExp ∷ opLn ∷ opAtan ∷ opCos ∷ opSin ∷ []) 0x4000_0000 0xff80_0000 0
+    -- 2: a black first operand
+    ++ each (opSqrt ∷ opInvsqrt ∷ opInv ∷ opRecip ∷ opLn ∷ opPowi ∷ opPowf ∷ []) 0x0000_0000 0x0000_0000 2
+    ++ each (opSqrt ∷ opInvsqrt ∷ opInv ∷ opRecip ∷ opLn ∷ opPowi ∷ opPowf ∷ []) 0x807f_ffff 0x7f7f_ffff 2
+    ++ each (opTrunc ∷ opFract ∷ opFloor ∷ opCeil ∷ opRound ∷ opAbs ∷ opCopysign ∷ opSignum ∷ opExp ∷ opAtan ∷ opAtan2 ∷ opCos ∷ opSin ∷ opHypot ∷ []) 0x0000_0000 0x3f80_0000 0
+    -- 3: a sign bit on the first operand
+    ++ each (opSqrt ∷ opInvsqrt ∷ opInv ∷ opLn ∷ opPowf ∷ []) 0x8080_0000 0x0000_0000 3
+    ++ each (opTrunc ∷ opFract ∷ opFloor ∷ opCeil ∷ opRound ∷ opAbs ∷ opCopysign ∷ opSignum ∷ opRecip ∷ opExp ∷ opPowi ∷ opAtan ∷ opAtan2 ∷ opCos ∷ opSin ∷ opHypot ∷ []) 0xbf80_0000 0x0000_0001 0
+    -- 4: no gate
+    ++ each (opAbs ∷ opCopysign ∷ opSignum ∷ opSqrt ∷ opInvsqrt ∷ opLn ∷ opPowi ∷ []) 0x7f7f_ffff 0x0000_0001 0
+    -- 5: the power is powi's, and no float's place
+    ++ each (opPowi ∷ []) 0x4000_0000 0xff80_0000 5
+    ++ each (opCopysign ∷ opAtan2 ∷ opHypot ∷ []) 0x4000_0000 0xbf80_0000 0
+    ++ each (opPowf ∷ []) 0x3f80_0000 0x7f7f_ffff 0
+
+abbrev pub cases : List Case
+cases = ends ++ lists
 
 pub edges : map (λ c. refusalOf (c .op) (c .first) (c .second)) cases ≡ map (λ c. c .refusal) cases
 unfolding refusalBehind judged polynomial logarithm lnWord add sub mul div lt nanBits ofBits toBits ofInt
