@@ -1,10 +1,10 @@
-//! Both sides of every edge in document 01, and its worked examples of the guarded form, each with what the document says of
-//! it. The list is written by hand, apart from the gates of `gates.rs`.
+//! Both sides of every edge in the specification, and its worked examples of the guarded form, each with what is said of it
+//! there. The list is written by hand, apart from the gates of `gates.rs`.
 
 use crate::kernels::{guarded, Kernel};
 use crate::sweep::Count;
 
-/// What the document says of a guarded call.
+/// What the specification says of a guarded call.
 #[derive(Clone, Copy)]
 enum Says {
     /// The crate's word.

@@ -14,8 +14,11 @@ const FRAMES: usize = 26_500;
 /// More short lines in a row than a program has room for the answers to, and so few bytes that one read brings them all.
 const SHORT: usize = 6_500;
 
-/// Document 01's whole run, its worked examples of the raw form, and what it pins where runs skip the crate: each line with
-/// its answer as the document gives it.
+/// So many lines that are each longer than a read, spread over the list: it takes many reads, and none ends where a line does.
+const LONG: usize = 16;
+
+/// The specification's whole run, its worked examples of the raw form, and what it pins where runs skip the crate: each line
+/// with its answer as it is given there.
 const EXAMPLES: &[(&str, &str)] = &[
     // the whole run
     ("094080000000000000", "0040000000"),
@@ -126,6 +129,12 @@ fn short() -> Vec<Vec<u8>> {
     (0..SHORT).map(|i| if i % 7 == 3 { b"0".to_vec() } else { Vec::new() }).collect()
 }
 
+/// A line that begins as a frame does and is longer than a read.
+fn long(i: usize) -> Vec<u8> {
+    const READ: usize = 65_536;
+    frame(0x09, 0x4080_0000, 0).iter().cycle().take(READ + 37 * i).copied().collect()
+}
+
 /// The whole list. Random words of every operation in turn fill it.
 fn list(reader: &Reader) -> Vec<Vec<u8>> {
     let mut list = Vec::new();
@@ -135,7 +144,11 @@ fn list(reader: &Reader) -> Vec<Vec<u8>> {
     }
     list.extend([short(), malformed(), unknown(reader), unused(reader), edges(reader)].concat());
     let mut random = Lines::new(reader, 11);
-    for (op, kernel) in reader.known().into_iter().cycle().take(FRAMES - list.len()) {
+    let left = FRAMES - list.len() - LONG;
+    for (i, (op, kernel)) in reader.known().into_iter().cycle().take(left).enumerate() {
+        if i % (left / LONG) == 0 && i / (left / LONG) < LONG {
+            list.push(long(i / (left / LONG)));
+        }
         list.push(random.of(op, kernel.takes));
     }
     list

@@ -1,5 +1,5 @@
--- Document 01's refusals in one table of the definitions: both sides of every end of a gate, and the operations that a refusal is about
--- beside those that it is not. And the ends of the gates as the numbers that the document gives. Assumes nothing.
+-- The refusals in one table of the definitions: both sides of every end of a gate, and the operations that a refusal is about
+-- beside those that it is not. And the ends of the gates as the numbers that are meant. Assumes nothing.
 use Prim.Native.Nat.{ℕ, _+_}
 use mathlib.Core.Path.{_≡_, refl}
 use mathlib.Core.Bool.{true, false}
