@@ -35,7 +35,7 @@ const STEPS: &[(&str, &[(u32, u32)])] = &[
     // a quarter makes the turns whole, or just does not
     ("cos", &[(0xbfc9_0fdb, 0), (0xbfc9_0fdc, 0), (0xcbc9_0fdb, 0), (0xcbc9_0fdc, 0)]),
     // every other constant, one unit up and one down
-    ("recip", &[(0xc622_ce00, 0)]),
+    ("recip", &[(0xc622_ce00, 0), (0x4001_0000, 0), (0xc001_0000, 0)]),
     ("exp", &[(0x3d6c_54c0, 0), (0xc0c4_e61e, 0), (0xc0c6_0000, 0)]),
     ("ln", &[(0x3d94_0000, 0), (0x40cc_0000, 0)]),
     ("atan", &[(0xbd80_0000, 0)]),

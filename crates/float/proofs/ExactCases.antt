@@ -92,7 +92,8 @@ rows =
     ∷ recipWord 0x8000_0000 gives 0xff80_0000
     ∷ recipWord 0x3f80_0000 gives 0x3f80_0004
     ∷ recipWord 0xbf80_0000 gives 0xbf80_0004
-    ∷ recipWord 0x4040_0000 gives 0x3eaa_aa8f
+    ∷ recipWord 0x4001_0000 gives 0x3efe_03fd
+    ∷ recipWord 0xc001_0000 gives 0xbefe_03fd
     ∷ recipWord 0xc622_ce00 gives 0xb8c9_4590
     ∷ recipWord 0x7e00_0000 gives 0x0100_0004
     ∷ recipWord 0x0080_0000 gives 0x7e80_0004
