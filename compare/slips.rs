@@ -4,6 +4,8 @@
 
 extern crate self as micromath;
 
+// not ours to lay out
+#[rustfmt::skip]
 mod float;
 mod gates;
 pub mod kernels;

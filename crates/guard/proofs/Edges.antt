@@ -132,7 +132,7 @@ ends =
 abbrev each : List ℕ → ℕ → ℕ → ℕ → List Case
 each ops a b n = map (λ op. at op a b n) ops
 
--- One operand is a float, and takes all but the words in question; each list below stands beside the rest of these.
+-- each list of operations that a refusal is about, and beside it the others, which answer such words or refuse them otherwise
 abbrev pub lists : List Case
 lists =
     -- 1: the first operand of each, before anything else, and the second of four
