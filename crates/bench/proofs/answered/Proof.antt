@@ -16,8 +16,7 @@ abbrev μ-loop : tie.MeasureT-loop
 
 pub answered-spec : {M : Type 1} → statement M
 answered-spec =
-    tie.close
-    (tie.spec
+    let met = tie.spec
     Inv-loop
     μ-loop
     (λ c. (at-first _ _, omega arith))
@@ -35,4 +34,5 @@ answered-spec =
     let stepped = c .before .before .before .before .before .before in
     (onward _ _ _ _ _ _ (stepped .before .before .before .loop .inv .0) (stepped .step .ensures), omega arith))
     (λ c. search needs)
-    (λ c e. at-last _ _ _ _ (c .before .loop .inv .0) (c .loop-test .left)))
+    (λ c e. at-last _ _ _ _ (c .before .loop .inv .0) (c .loop-test .left)) in
+    tie.close met

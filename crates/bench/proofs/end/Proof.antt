@@ -14,11 +14,11 @@ fits c = omega (arith, c .finish .ensures .needed, last-length (c .before .befor
 
 pub end-spec : {M : Type 1} → statement M
 end-spec =
-    tie.close
-    (tie.spec
+    let met = tie.spec
     (λ c. search needs)
     (λ c κs. search needs)
     (λ c. fits (c .before))
     (λ c. sym (length-take _ _ ∙ min-eq-left (fits (c .before .before))))
     (λ c κs. last-part _ _ _ _ (c .before .before .finish .ensures) (omega (arith, c .before .before .finish .ensures .needed, last-length (c .before .before .before .before .args .lines))))
-    (λ c. search needs))
+    (λ c. search needs) in
+    tie.close met

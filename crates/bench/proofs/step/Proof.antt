@@ -25,8 +25,7 @@ fits c = let fed = c .before .before .before .feed in omega (arith, written-with
 
 pub step-spec : {M : Type 1} → statement M
 step-spec =
-    tie.close
-    (tie.spec
+    let met = tie.spec
     (λ c. search needs)
     (λ c. search needs)
     (λ c. search needs)
@@ -42,4 +41,5 @@ step-spec =
     handed _ (a .chunk .now) (a .left) _ _ _ (c .before .before .before .before .before .feed .ensures))
     (λ c. search needs)
     (λ c. let a = c .before .before .before .before .before .before .before .before .before .before .before .args in
-    stepped _ (a .chunk .now) (a .left) _ _ _ (c .before .before .before .before .before .before .feed .ensures) _))
+    stepped _ (a .chunk .now) (a .left) _ _ _ (c .before .before .before .before .before .before .feed .ensures) _) in
+    tie.close met

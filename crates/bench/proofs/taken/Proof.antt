@@ -21,8 +21,7 @@ above (negsuc k) z q a b = absurd (false≢true (sym (rw q at a)))
 
 pub taken-spec : {M : Type 1} → statement M
 taken-spec =
-    tie.close
-    (tie.spec
+    let met = tie.spec
     (λ c. search needs)
     (λ c κs. search needs)
     (λ c κs. search needs)
@@ -41,4 +40,5 @@ taken-spec =
     record {
       some = above (start .args .got) _ z (counted .before .before .if1 .left) (counted .before .if2 .left);
       lines = c .before .before .answered .ensures e ∙ rw (counted .count .ensures .1, z);
-    }))
+    }) in
+    tie.close met

@@ -27,12 +27,12 @@ took s (negsuc k) m buffer t h l a = absurd (false≢true (a .some))
 
 pub turn-spec : {M : Type 1} → statement M
 turn-spec =
-    tie.close
-    (tie.spec
+    let met = tie.spec
     (λ c κs. search needs)
     (λ c κs. search needs)
     (λ c. search needs)
     (λ c. search needs)
     (λ c e.
     let read = c .before .before .before .before .before .before .before .read in
-    took _ (read .result) _ _ _ (read .ensures) (read .kept .1 .0) (rw (toZ-ofZ {w = w64} {z = read .result} (record { sfits = read .ok })) at (c .before .before .taken .ensures e))))
+    took _ (read .result) _ _ _ (read .ensures) (read .kept .1 .0) (rw (toZ-ofZ {w = w64} {z = read .result} (record { sfits = read .ok })) at (c .before .before .taken .ensures e))) in
+    tie.close met

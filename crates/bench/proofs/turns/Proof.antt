@@ -23,8 +23,7 @@ counted most more h k = omega arith
 
 pub turns-spec : {M : Type 1} → statement M
 turns-spec =
-    tie.close
-    (tie.spec
+    let met = tie.spec
     Inv-loop
     μ-loop
     (λ c κs. search needs)
@@ -48,4 +47,5 @@ turns-spec =
     (rw n at (onward _ _ _ _ (i .0) (turned .turn .ensures (not-false _ (c .if1 .left)))), omega arith, omega arith, omega arith))
     (λ c e.
     let all : c .before .before .before .before .before .args .most - c .before .loop .more ≡ c .before .before .before .before .before .args .most = omega arith in
-    rw all at (c .before .loop .inv .0)))
+    rw all at (c .before .loop .inv .0)) in
+    tie.close met
