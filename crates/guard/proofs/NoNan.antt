@@ -5,19 +5,20 @@ use native.Mathlib.Nat.{le-refl, le-of-lt}
 use native.Mathlib.Omega.{arith}
 use mathlib.Core.Path.{_≡_, refl, sym, ap, subst, _∙_}
 use mathlib.Core.Logic.{_⊎_, inl, inr}
-use mathlib.Core.Bool.{Bool, true, false, cond, not, _&&_, true≢false}
+use mathlib.Core.Bool.{Bool, true, false, cond, true≢false, false≢true}
 use borrow.Author.Tests.{leb-true, leb-false, eqb-true}
-use lib.Dec.{leb, eqb}
+use lib.Dec.{T, leb, eqb}
 use mir.Syntax.{w32}
 use mir.Val.{ofZ, toZ}
 use mir.Facts.{ofZ-toZ}
-use lib.Ieee.{binary32, top, nanBits}
-use lib.Ieee.Bits.{toBits-lt}
+use lib.Ieee.{Float, nan, binary32, top, fits, nanBits, ofBits, toBits}
+use lib.Ieee.Bits.{ofBits-toBits}
 use lib.Ieee.Fits.{mul-fits}
 use Rattle.format.specs.Fields.{magnitude}
 use Rattle.format.specs.Meaning.{Under32, To31, Under23}
 use Rattle.format.specs.Estimates.{Invertible}
 use Rattle.format.proofs.Fields.{magnitude-lt}
+use Rattle.format.proofs.Nan.{nan-read, nan-written}
 use Rattle.float.specs.Engine.{ieee}
 use Rattle.float.specs.Atan.{atanNormWord}
 use Rattle.float.specs.Powf.{productWord}
@@ -34,11 +35,11 @@ use Rattle.sizes.proofs.Hypot.{hypot-number}
 use Rattle.sizes.proofs.Powi.{powi-number}
 use Rattle.guard.specs.declared.gate.Gate.{Gate}
 use Rattle.guard.specs.Operations.{opTrunc, opFloor, opRound, opSqrt, opInvsqrt, opInv, opRecip, opExp, opLn, opPowi, opPowf, opAtan, opAtan2, opCos}
-use Rattle.guard.specs.Gates.{gateOf, judged, place, passes, larger}
-use Rattle.guard.specs.Refusals.{isPastPower, refusalOf}
+use Rattle.guard.specs.Gates.{gateOf, judged, place, within, passes, larger}
+use Rattle.guard.specs.Refusals.{isEndless, isPastPower, refusalOf}
 use Rattle.guard.specs.Guarded.{valueOf}
 use Rattle.guard.proofs.Each.{Each, done, _⨟_, of-each}
-use Rattle.guard.proofs.Open.{Open, opened, finite-of, positive, above-black, is-normal, Between, both, one-of, plain, between}
+use Rattle.guard.proofs.Open.{Open, opened, finite-of, positive, above-black, is-normal, Between, both, parted, plain, between}
 
 -- ---- the magnitude that an open gate has let pass
 
@@ -75,20 +76,20 @@ module _ (a : ℕ) where
   to1024 e = let r = by-magnitude (gateOf opCos) a refl e in omega arith
 
 -- exp's gate has a sign at its low end
-within-exp : (w : ℕ) → w < 2 ^ 32 → passes (gateOf opExp) w ≡ true → (w ≤ 0x42b0_0000) ⊎ ((0x8000_0000 ≤ w) × (w ≤ 0xc2ae_0000))
-within-exp w h e =
-    elim (one-of ((leb (place 0xc2ae_0000) (place w) && leb (place w) (place 0x42b0_0000)) && not (eqb w 0xffff_ffff)) (eqb w 0xc2ae_0000) e) [
-      | inl p ↦ go (leb (top binary32) w) refl (both _ _ (both _ _ p .0))
-      | inr p ↦ inr (low-end (eqb-true w 0xc2ae_0000 p))
-    ]
+within-exp : (w : ℕ) → (w ≡ 0xffff_ffff → ⊥) → passes (gateOf opExp) w ≡ true → (w ≤ 0x42b0_0000) ⊎ ((0x8000_0000 ≤ w) × (w ≤ 0xc2ae_0000))
+within-exp w n e = elim (parted (within (gateOf opExp) w) (eqb w 0xffff_ffff) e) [
+  | inl p ↦ go (leb (top binary32) w) refl (both _ _ (p .0))
+  | inr p ↦ absurd (n (eqb-true w 0xffff_ffff (p .1)))
+]
   where
-    low-end : w ≡ 0xc2ae_0000 → (0x8000_0000 ≤ w) × (w ≤ 0xc2ae_0000)
-    low-end e = (omega arith, omega arith)
-
     go : (t : Bool) → leb (top binary32) w ≡ t → (leb (place 0xc2ae_0000) (place w) ≡ true) × (leb (place w) (place 0x42b0_0000) ≡ true)
         → (w ≤ 0x42b0_0000) ⊎ ((0x8000_0000 ≤ w) × (w ≤ 0xc2ae_0000))
     go true t q = let x = rw t at (leb-true (place 0xc2ae_0000) (place w) (q .0)) in inr (leb-true (top binary32) w t, omega arith)
     go false t q = let x = rw t at (leb-true (place w) (place 0x42b0_0000) (q .1)) in inl (omega arith)
+
+last-nan : nanBits binary32 0xffff_ffff ≡ true
+unfolding nanBits
+last-nan = refl
 
 -- the larger of two is at least each of them, and it is one of them
 record Larger (m n x : ℕ) : Type 0 where
@@ -130,8 +131,15 @@ pair a b e =
     go (inl e) h = inl (omega arith)
     go (inr e) h = inr (omega arith)
 
-product-lt : (a b : ℕ) → productWord a b < 2 ^ 32
-product-lt a b = toBits-lt binary32 _ (mul-fits binary32 _ _)
+-- a word that no float is written as, and no finite one
+no-float : (x : Float) → T (fits binary32 x) → toBits binary32 x ≡ 0xffff_ffff → ⊥
+no-float x h e =
+    let r : x ≡ nan = sym (ofBits-toBits binary32 x h) ∙ ap (ofBits binary32) e ∙ nan-read binary32 0xffff_ffff last-nan in
+    let z : _≡_ {A = ℕ} 0xffff_ffff 0x7fc0_0000 = sym e ∙ ap (toBits binary32) r ∙ nan-written binary32 in
+    omega arith
+
+not-endless : (w : ℕ) → isEndless w ≡ false → w ≡ 0xffff_ffff → ⊥
+not-endless w n e = false≢true (sym n ∙ ap isEndless e)
 
 -- the power whose magnitude is no power is refused
 no-least : (b : ℕ) → b < 2 ^ 32 → isPastPower b ≡ false → ofZ w32 (toZ w32 b) ≡ 2 ^ 31 → ⊥
@@ -162,10 +170,10 @@ each =
     ⨟ (λ a b h k o. invsqrt-number a (is-normal opInvsqrt a b refl o refl))
     ⨟ (λ a b h k o. inv-number a (invertible a b o))
     ⨟ (λ a b h k o. recip-number a (above-black opRecip a b refl o) (to125 a (o .gate)))
-    ⨟ (λ a b h k o. exp-number a (within-exp a h (o .gate)))
+    ⨟ (λ a b h k o. exp-number a (within-exp a (not-endless a (o .first)) (o .gate)))
     ⨟ (λ a b h k o. ln-number a (is-normal opLn a b refl o refl))
     ⨟ (λ a b h k o. powi-number a (toZ w32 b) h (above-black opPowi a b refl o) (finite-of a (o .first)) (no-least b k (o .power)))
-    ⨟ (λ a b h k o. powf-number a b (is-normal opPowf a b refl o refl) (within-exp (productWord a b) (product-lt a b) (o .gate)))
+    ⨟ (λ a b h k o. powf-number a b (is-normal opPowf a b refl o refl) (within-exp (productWord a b) (no-float _ (mul-fits binary32 _ _)) (o .gate)))
     ⨟ (λ a b h k o. atan-number a (under64 a (o .gate)))
     ⨟ (λ a b h k o. let p = pair a b (o .gate) in atan2-number a b h k (p .first) (p .second) (p .either))
     ⨟ (λ a b h k o. cos-number a (to1024 a (o .gate)))

@@ -3,20 +3,20 @@
 use Prim.Native.Nat.{ℕ, _≤_, _<_}
 use native.Mathlib.Nat.{mod-eq-of-lt, div-eq-of-lt, div-lt-iff-lt-mul, le-of-suc-le-suc, eq-or-lt-of-le}
 use native.Mathlib.Omega.{arith}
-use mathlib.Core.Path.{_≡_, refl, sym, subst, _∙_}
+use mathlib.Core.Path.{_≡_, refl, sym, ap, subst, _∙_}
 use mathlib.Core.Logic.{_⊎_, inl, inr}
 use mathlib.Core.Bool.{Bool, true, false, not, _&&_, _||_, false≢true}
 use mathlib.Core.List.{[], _∷_}
 use borrow.Author.Tests.{leb-true, leb-false, lt-leb, ltb-true, eqb-true, eqb-false, not-true, not-false}
 use lib.Dec.{leb, ltb, eqb}
-use lib.Ieee.{binary32, hid, ones, top}
+use lib.Ieee.{binary32, hid, ones, top, unlike}
 use Rattle.format.specs.Fields.{negative, magnitude, exponent, infWord}
 use Rattle.format.specs.Value.{Finite}
 use Rattle.format.specs.Estimates.{Normal}
 use Rattle.format.proofs.Fields.{hid-pos, exponent-lt}
 use Rattle.guard.specs.declared.gate.Gate.{Gate}
 use Rattle.guard.specs.Operations.{among, opPowi}
-use Rattle.guard.specs.Gates.{low, high, hole, also, gateOf, judged, place, passes}
+use Rattle.guard.specs.Gates.{low, high, other, gateOf, judged, place, within, passes}
 use Rattle.guard.specs.Refusals.{isEndless, isBlack, isPastPower, twoFloats, refusesBlack, refusesSign, refusalOf}
 use Rattle.guard.proofs.First.{none-holds}
 
@@ -72,50 +72,58 @@ module _ (op a b : ℕ) (black : refusesBlack op ≡ true) (o : Open op a b) whe
 
 -- ---- the gate of a word whose sign is clear
 
-pub one-of : (p q : Bool) → (p || q) ≡ true → (p ≡ true) ⊎ (q ≡ true)
-one-of true q e = inl refl
-one-of false q e = inr e
+-- two tests that part: one holds and the other does not
+pub parted : (p q : Bool) → unlike p q ≡ true → ((p ≡ true) × (q ≡ false)) ⊎ ((p ≡ false) × (q ≡ true))
+parted true true e = absurd (false≢true e)
+parted true false e = inl (refl, refl)
+parted false true e = inr (refl, refl)
+parted false false e = absurd (false≢true e)
 
 pub record Between (g : Gate) (w : ℕ) : Type 0 where
   pub low : low g ≤ w
   pub high : w ≤ high g
-  pub clear : w ≡ hole g → ⊥
+  pub clear : w ≡ other g → ⊥
 
 pub both : (p q : Bool) → (p && q) ≡ true → (p ≡ true) × (q ≡ true)
 both true q e = (refl, e)
 both false q e = absurd (false≢true e)
 
--- a row that lets no other word pass, and whose ends are magnitudes: a test on its words, `tt` where they are written out
-abbrev pub plain : Gate → Bool
-plain g = (ltb (high g) (top binary32) && leb (low g) (high g)) && (eqb (also g) (low g) && not (eqb (low g) (hole g)))
+one-of : (p q : Bool) → (p || q) ≡ true → (p ≡ true) ⊎ (q ≡ true)
+one-of true q e = inl refl
+one-of false q e = inr e
 
--- the magnitudes that pass: between the ends, or the row's other word
-pub between-or : (g : Gate) (w : ℕ) → low g < top binary32 → high g < top binary32 → w < top binary32 → passes g w ≡ true → Between g w ⊎ (w ≡ also g)
-between-or g w l h k e = go (one-of ((leb (place (low g)) (place w) && leb (place w) (place (high g))) && not (eqb w (hole g))) (eqb w (also g)) e)
+-- the magnitudes that pass: between the ends, or outside them the row's other word
+pub between-or : (g : Gate) (w : ℕ) → low g < top binary32 → high g < top binary32 → w < top binary32 → passes g w ≡ true
+    → Between g w ⊎ ((within g w ≡ false) × (w ≡ other g))
+between-or g w l h k e = go (parted (within g w) (eqb w (other g)) e)
   where
-    inside : ((leb (place (low g)) (place w) && leb (place w) (place (high g))) && not (eqb w (hole g))) ≡ true → Between g w
-    inside e =
-        let p = both _ _ e in
-        let q = both _ _ (p .0) in
+    inside : within g w ≡ true → eqb w (other g) ≡ false → Between g w
+    inside p n =
+        let q = both _ _ p in
         record {
           low = let x = rw (lt-leb (top binary32) (low g) l, lt-leb (top binary32) w k) at (leb-true (place (low g)) (place w) (q .0)) in omega arith;
           high = let x = rw (lt-leb (top binary32) w k, lt-leb (top binary32) (high g) h) at (leb-true (place w) (place (high g)) (q .1)) in omega arith;
-          clear = eqb-false _ _ (not-true _ (p .1));
+          clear = eqb-false _ _ n;
         }
 
-    go : (((leb (place (low g)) (place w) && leb (place w) (place (high g))) && not (eqb w (hole g))) ≡ true) ⊎ (eqb w (also g) ≡ true) → Between g w ⊎ (w ≡ also g)
-    go (inl p) = inl (inside p)
-    go (inr p) = inr (eqb-true _ _ p)
+    go : ((within g w ≡ true) × (eqb w (other g) ≡ false)) ⊎ ((within g w ≡ false) × (eqb w (other g) ≡ true)) → Between g w ⊎ ((within g w ≡ false) × (w ≡ other g))
+    go (inl p) = inl (inside (p .0) (p .1))
+    go (inr p) = inr (p .0, eqb-true _ _ (p .1))
+
+-- a row whose ends are magnitudes, and whose other word is none or lies between them: a test on its words, `refl` where they are written out
+abbrev pub plain : Gate → Bool
+plain g = (ltb (low g) (top binary32) && ltb (high g) (top binary32)) && (leb (top binary32) (other g) || within g (other g))
 
 pub between : (g : Gate) (w : ℕ) → plain g ≡ true → w < top binary32 → passes g w ≡ true → Between g w
-between g w t k e =
-    let p = both (ltb (high g) (top binary32) && leb (low g) (high g)) (eqb (also g) (low g) && not (eqb (low g) (hole g))) t in
-    let q = both (ltb (high g) (top binary32)) (leb (low g) (high g)) (p .0) in
-    let r = both (eqb (also g) (low g)) (not (eqb (low g) (hole g))) (p .1) in
-    let h = ltb-true (high g) (top binary32) (q .0) in
-    let o = leb-true (low g) (high g) (q .1) in
-    let s = eqb-true (also g) (low g) (r .0) in
-    elim (between-or g w (omega arith) h k e) [
-      | inl b ↦ b
-      | inr d ↦ record { low = omega arith; high = omega arith; clear = λ z. eqb-false (low g) (hole g) (not-true _ (r .1)) (sym s ∙ sym d ∙ z) }
-    ]
+between g w t k e = go (between-or g w (ltb-true _ _ (q .0)) (ltb-true _ _ (q .1)) k e) (one-of (leb (top binary32) (other g)) (within g (other g)) (p .1))
+  where
+    p : ((ltb (low g) (top binary32) && ltb (high g) (top binary32)) ≡ true) × ((leb (top binary32) (other g) || within g (other g)) ≡ true)
+    p = both (ltb (low g) (top binary32) && ltb (high g) (top binary32)) (leb (top binary32) (other g) || within g (other g)) t
+
+    q : (ltb (low g) (top binary32) ≡ true) × (ltb (high g) (top binary32) ≡ true)
+    q = both (ltb (low g) (top binary32)) (ltb (high g) (top binary32)) (p .0)
+
+    go : Between g w ⊎ ((within g w ≡ false) × (w ≡ other g)) → (leb (top binary32) (other g) ≡ true) ⊎ (within g (other g) ≡ true) → Between g w
+    go (inl b) n = b
+    go (inr d) (inl n) = absurd (let l = leb-true (top binary32) (other g) n in let z : ⊥ = omega (arith, d .1) in z)
+    go (inr d) (inr n) = absurd (false≢true (sym (d .0) ∙ ap (within g) (d .1) ∙ n))

@@ -1,5 +1,5 @@
 -- The gate test as numbers: words stand in the order of the numbers that they are, but that -0 stands just below +0; so what passes a gate
--- is no number below its low end, none above its high end, and not the word that it holds back, or it is the gate's other word. Assumes nothing.
+-- is no number below its low end, and none above its high end, but for the one word that is judged the other way. Assumes nothing.
 use Prim.Native.Nat.{ℕ, zero, suc, _+_, _-_, _*_, _^_, _≤_, _<_}
 use native.Mathlib.Nat.{lt-irrefl, not-le-of-lt, mul-le-mul-right, mul-lt-mul-of-pos-right}
 use native.Mathlib.Omega.{arith}
@@ -11,7 +11,7 @@ use borrow.Author.Tests.{leb-true, leb-false, ltb-true, ltb-false, lt-ltb, le-lt
 use lib.Dec.{leb, ltb, eqb}
 use lib.ListN.{getD}
 use lib.Pow.{pow-pos}
-use lib.Ieee.{Format, binary32, ones, top, lt, below, ofBits}
+use lib.Ieee.{Format, binary32, ones, top, unlike, lt, below, ofBits}
 use lib.Ieee as ieee
 use lib.Ieee.Bits.{toBits-lt}
 use lib.Ieee.Fits.{mul-fits}
@@ -24,7 +24,7 @@ use Rattle.float.specs.Powf.{productWord}
 use Rattle.sizes.proofs.Words.{units-mono, magnitude-mono}
 use Rattle.guard.specs.declared.gate.Gate.{Gate}
 use Rattle.guard.specs.Operations.{among, opExp, opPowf, opAtan2, opHypot}
-use Rattle.guard.specs.Gates.{low, high, hole, also, unbounded, gates, gateOf, place, passes, larger, judged}
+use Rattle.guard.specs.Gates.{low, high, other, unbounded, gates, gateOf, place, passes, larger, judged}
 use Rattle.guard.proofs.Open.{both}
 
 -- ---- two tests that agree
@@ -113,9 +113,9 @@ zeros-differ = (refl, refl)
 
 -- ---- the gate test
 
--- the words that pass as numbers: none below the low end, none above the high end, and not the word held back; or the word that passes besides
+-- the words that pass as numbers: none below the low end and none above the high end, but for the word that is judged the other way
 abbrev pub withinEnds : Gate → ℕ → Bool
-withinEnds g w = ((not (lt (ofBits binary32 w) (ofBits binary32 (low g))) && not (lt (ofBits binary32 (high g)) (ofBits binary32 w))) && not (eqb w (hole g))) || eqb w (also g)
+withinEnds g w = unlike (not (lt (ofBits binary32 w) (ofBits binary32 (low g))) && not (lt (ofBits binary32 (high g)) (ofBits binary32 w))) (eqb w (other g))
 
 not-below : (v w : ℕ) → v < 2 ^ 32 → w < 2 ^ 32 → Finite binary32 v → Finite binary32 w → Apart w v → leb (place v) (place w) ≡ not (lt (ofBits binary32 w) (ofBits binary32 v))
 not-below v w h k p q apart = leb-is (place v) (place w) ∙ ap not (apart-order w v k h q p apart)

@@ -1,11 +1,11 @@
--- The gates, one for each operation: the lowest and the highest word that pass, both allowed, a word between them that does not, and one that
--- does wherever it stands. Words are ordered as the numbers that they are, -0 just below +0. Definitions only.
+-- The gates, one for each operation: the lowest and the highest word that pass, both allowed, and a word that is judged the other way: between
+-- the ends it does not pass, and elsewhere it does. Words are ordered as the numbers that they are, -0 just below +0. Definitions only.
 use Prim.Native.Nat.{ℕ, _+_, _-_, _*_}
-use mathlib.Core.Bool.{Bool, cond, not, _&&_, _||_}
+use mathlib.Core.Bool.{Bool, cond, _&&_}
 use mathlib.Core.List.{List, [], _∷_}
 use lib.ListN.{getD}
 use lib.Dec.{leb, eqb}
-use lib.Ieee.{binary32, top}
+use lib.Ieee.{binary32, top, unlike}
 use Rattle.format.specs.Fields.{negative, magnitude}
 use Rattle.float.specs.Powf.{productWord}
 use Rattle.guard.specs.declared.gate.Gate.{Gate}
@@ -17,19 +17,15 @@ low g = g .0
 abbrev pub high : Gate → ℕ
 high g = g .1
 
-abbrev pub hole : Gate → ℕ
-hole g = g .2
+abbrev pub other : Gate → ℕ
+other g = g .2
 
-abbrev pub also : Gate → ℕ
-also g = g .3
-
--- the whole row; and one with no word held back, since ffffffff is a NaN, which no gate's ends take in, and none let pass besides, since its low end
--- passes already
-abbrev pub row : ℕ → ℕ → ℕ → ℕ → Gate
-row l h n a = record { 0 = l; 1 = h; 2 = n; 3 = a }
+-- the whole row; and one with no such word: ffffffff is a NaN, which refusal 1 has turned away before
+abbrev pub row : ℕ → ℕ → ℕ → Gate
+row l h n = record { 0 = l; 1 = h; 2 = n }
 
 abbrev pub between : ℕ → ℕ → Gate
-between l h = row l h 0xffff_ffff l
+between l h = row l h 0xffff_ffff
 
 -- every magnitude passes
 abbrev pub unbounded : Gate
@@ -43,7 +39,7 @@ gates =
     ∷ between 0x0000_0000 0x4f7f_ffff  -- fract: the same
     ∷ between 0x0000_0000 0x4f00_0000  -- floor: |x| to 2 ^ 31
     ∷ between 0x0000_0000 0x4f00_0000  -- ceil: the same
-    ∷ row 0x0000_0000 0x4aff_ffff 0x3eff_ffff 0x0000_0000  -- round: |x| under 2 ^ 23, and not 3effffff
+    ∷ row 0x0000_0000 0x4aff_ffff 0x3eff_ffff  -- round: |x| under 2 ^ 23, and not 3effffff
     ∷ unbounded  -- abs
     ∷ unbounded  -- copysign
     ∷ unbounded  -- signum
@@ -69,8 +65,11 @@ gateOf op = getD gates op unbounded
 abbrev pub place : ℕ → ℕ
 place w = cond (negative binary32 w) (2 * top binary32 - 1 - w) (top binary32 + w)
 
+abbrev pub within : Gate → ℕ → Bool
+within g w = leb (place (low g)) (place w) && leb (place w) (place (high g))
+
 abbrev pub passes : Gate → ℕ → Bool
-passes g w = ((leb (place (low g)) (place w) && leb (place w) (place (high g))) && not (eqb w (hole g))) || eqb w (also g)
+passes g w = unlike (within g w) (eqb w (other g))
 
 -- the larger of two magnitudes
 abbrev pub larger : ℕ → ℕ → ℕ

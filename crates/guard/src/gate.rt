@@ -4,42 +4,42 @@ ghost use Rattle.guard.specs.Gates.{gateOf, place, passes, larger, judge
 use crate::number;
 use float::F32;
 
-// The lowest and the highest word that pass, both allowed, a word between them that does not, and
-// one that does wherever it stands: the lowest again where there is none. Words are ordered as the
-// numbers that they are, -0 just below +0.
-pub struct Gate(pub u32, pub u32, pub u32, pub u32);
+// The lowest and the highest word that pass, both allowed, and a word that is judged the other way:
+// between them it does not pass, and elsewhere it does. Words are ordered as the numbers that they
+// are, -0 just below +0.
+pub struct Gate(pub u32, pub u32, pub u32);
 
-// A NaN, which no gate's ends take in: no word is held back.
+// A NaN, which refusal 1 has turned away before: no word is judged the other way.
 const NONE: u32 = 0xffff_ffff;
 
 // Every magnitude passes.
-const OPEN: Gate = Gate(0x0000_0000, 0x7fff_ffff, NONE, 0x0000_0000);
+const OPEN: Gate = Gate(0x0000_0000, 0x7fff_ffff, NONE);
 
 // By operation number, from 00, which is no operation. An end that is "under" a bound is the word
 // below it.
 const GATES: [Gate; 22] = [
     OPEN, // no operation
-    Gate(0x0000_0000, 0x4f7f_ffff, NONE, 0x0000_0000), // trunc: |x| under 2^32
-    Gate(0x0000_0000, 0x4f7f_ffff, NONE, 0x0000_0000), // fract: the same
-    Gate(0x0000_0000, 0x4f00_0000, NONE, 0x0000_0000), // floor: |x| to 2^31
-    Gate(0x0000_0000, 0x4f00_0000, NONE, 0x0000_0000), // ceil: the same
-    Gate(0x0000_0000, 0x4aff_ffff, 0x3eff_ffff, 0x0000_0000), // round: |x| under 2^23, and not 3effffff
+    Gate(0x0000_0000, 0x4f7f_ffff, NONE), // trunc: |x| under 2^32
+    Gate(0x0000_0000, 0x4f7f_ffff, NONE), // fract: the same
+    Gate(0x0000_0000, 0x4f00_0000, NONE), // floor: |x| to 2^31
+    Gate(0x0000_0000, 0x4f00_0000, NONE), // ceil: the same
+    Gate(0x0000_0000, 0x4aff_ffff, 0x3eff_ffff), // round: |x| under 2^23, and not 3effffff
     OPEN, // abs
     OPEN, // copysign
     OPEN, // signum
     OPEN, // sqrt
     OPEN, // invsqrt
-    Gate(0x0000_0000, 0x7e80_0000, NONE, 0x0000_0000), // inv: to 2^126
-    Gate(0x0000_0000, 0x7e00_0000, NONE, 0x0000_0000), // recip: |x| to 2^125
-    Gate(0xc2ae_0000, 0x42b0_0000, NONE, 0xc2ae_0000), // exp: from -87 to 88
+    Gate(0x0000_0000, 0x7e80_0000, NONE), // inv: to 2^126
+    Gate(0x0000_0000, 0x7e00_0000, NONE), // recip: |x| to 2^125
+    Gate(0xc2ae_0000, 0x42b0_0000, NONE), // exp: from -87 to 88
     OPEN, // ln
     OPEN, // powi
-    Gate(0xc2ae_0000, 0x42b0_0000, NONE, 0xc2ae_0000), // powf: the product from -87 to 88
-    Gate(0x0000_0000, 0x5f7f_ffff, NONE, 0x0000_0000), // atan: |x| under 2^64
-    Gate(0x2180_0000, 0x5d80_0000, NONE, 0x2180_0000), // atan2: from 2^-60 to 2^60
-    Gate(0x0000_0000, 0x4480_0000, NONE, 0x0000_0000), // cos: |x| to 1024
-    Gate(0x0000_0000, 0x4480_0000, NONE, 0x0000_0000), // sin: the same
-    Gate(0x2180_0000, 0x5d80_0000, NONE, 0x2180_0000), // hypot: as atan2
+    Gate(0xc2ae_0000, 0x42b0_0000, NONE), // powf: the product from -87 to 88
+    Gate(0x0000_0000, 0x5f7f_ffff, NONE), // atan: |x| under 2^64
+    Gate(0x2180_0000, 0x5d80_0000, NONE), // atan2: from 2^-60 to 2^60
+    Gate(0x0000_0000, 0x4480_0000, NONE), // cos: |x| to 1024
+    Gate(0x0000_0000, 0x4480_0000, NONE), // sin: the same
+    Gate(0x2180_0000, 0x5d80_0000, NONE), // hypot: as atan2
 ];
 
 // The row of an operation. The whole table is copied to read it: keep it out of loops.
@@ -66,7 +66,7 @@ pub fn passes(gate: Gate, w: u32) -> bool
     ensures { λ r. ⌜ r ≡ passes gate w ⌝ }
 {
     let at = place(w);
-    ((place(gate.0) <= at) & (at <= place(gate.1)) & (w != gate.2)) | (w == gate.3)
+    ((place(gate.0) <= at) & (at <= place(gate.1))) != (w == gate.2)
 }
 
 fn larger(a: F32, b: F32) -> u32
