@@ -8,6 +8,7 @@ ghost use Rattle.guard.specs.Operations.{opAtan, opTrunc};
 ghost use Rattle.guard.specs.Refusals.{refusalOf};
 ghost use Rattle.frame.specs.Words.{answerWords, wordBeside, wordsOf};
 ghost use Rattle.frame.specs.Frame.{returned, left};
+ghost use Rattle.strip.specs.Strip.{wordAt, refusalAt, stripRefusal, stripLeaves};
 use float::F32;
 use frame::words;
 
@@ -18,6 +19,24 @@ pub extern "C" fn dampmeadow_words(op: u32, a: u32, b: u32) -> u64
     ensures { λ r. ⌜ r ≡ wordsOf op a b ⌝ }
 {
     words::answer(op, a, b)
+}
+
+// Runs an operation over a strip: place by place what it answers to the words of the first list and
+// the second goes into the answers and the refusals. Returns 0, or 10 where the four lists have not
+// all one length, or else 6 where there is no such operation; nothing is written then.
+#[no_mangle]
+pub extern "C" fn dampmeadow_strip(
+    op: u32,
+    first: &[u32],
+    second: &[u32],
+    answers: &mut [u32],
+    refusals: &mut [u32],
+) -> u32
+    ensures number { λ r. ⌜ r ≡ stripRefusal op (now (first .entry)) (now (second .entry)) (now (answers .entry)) (now (refusals .entry)) ⌝ }
+    ensures words { λ r. ⌜ now (answers .exit) ≡ stripLeaves (wordAt op) r (now (first .entry)) (now (second .entry)) (now (answers .entry)) ⌝ }
+    ensures numbers { λ r. ⌜ now (refusals .exit) ≡ stripLeaves (refusalAt op) r (now (first .entry)) (now (second .entry)) (now (refusals .entry)) ⌝ }
+{
+    strip::run(op, first, second, answers, refusals)
 }
 
 // Answers a line, given without its newline: eleven bytes at the front of the space, the refusal in

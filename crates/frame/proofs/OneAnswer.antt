@@ -8,6 +8,7 @@ use mathlib.Core.List.{List}
 use Rattle.frame.specs.Frame.{returned, left}
 use Rattle.format.proofs.Pinned.{OneAnswer, pinned}
 use Rattle.frame.proofs.words.answer.Reads as words-answer-reads
+use Rattle.frame.proofs.words.kernel_number.Reads as words-kernel-number-reads
 use Rattle.frame.proofs.words.refused.Reads as words-refused-reads
 use Rattle.frame.proofs.words.of_answer.Reads as words-of-answer-reads
 use Rattle.frame.proofs.of_line.Reads as of-line-reads
@@ -15,6 +16,9 @@ use Rattle.frame.proofs.answer.Reads as answer-reads
 
 pub words-answer : (κs : Lfts 0) → OneAnswer (words-answer-reads.Post κs) (λ r x. r)
 words-answer κs = pinned _ (λ a r x p. p)
+
+pub words-kernel-number : (κs : Lfts 0) → OneAnswer (words-kernel-number-reads.Post κs) (λ r x. r)
+words-kernel-number κs = pinned _ (λ a r x p. p)
 
 pub words-refused : (κs : Lfts 0) → OneAnswer (words-refused-reads.Post κs) (λ r x. r)
 words-refused κs = pinned _ (λ a r x p. p)

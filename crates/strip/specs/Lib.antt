@@ -1,0 +1,2 @@
+-- What a strip of words is answered with.
+pub mod Strip

@@ -1,0 +1,66 @@
+// An operation over a strip: whole lists of words, place by place what the single call answers. The
+// exported call of `dampmeadow` stands on it.
+ghost use mathlib.Core.Path.{_≡_};
+ghost use lib.ListN.{length};
+ghost use Rattle.strip.specs.Strip.{operandsIn, used, wordAt, refusalAt, zipped, stripRefusal, stripLeaves};
+use frame::words;
+
+// Runs an operation, guarded or raw, over two lists of words and fills a list with the answers and
+// one with the refusals: 0 where the place is answered, and with a refusal the word is 0. An
+// operation of one operand does not look at the second list; powi's powers stand there in two's
+// complement. Returns 0, or 10 where the four lists have not all one length, or else 6 where there
+// is no such operation; nothing is written then.
+pub fn run(op: u32, first: &[u32], second: &[u32], answers: &mut [u32], refusals: &mut [u32]) -> u32
+    ensures number { λ r. ⌜ r ≡ stripRefusal op (now (first .entry)) (now (second .entry)) (now (answers .entry)) (now (refusals .entry)) ⌝ }
+    ensures words { λ r. ⌜ now (answers .exit) ≡ stripLeaves (wordAt op) r (now (first .entry)) (now (second .entry)) (now (answers .entry)) ⌝ }
+    ensures numbers { λ r. ⌜ now (refusals .exit) ≡ stripLeaves (refusalAt op) r (now (first .entry)) (now (second .entry)) (now (refusals .entry)) ⌝ }
+{
+    let count = first.len();
+    if second.len() != count {
+        return 10;
+    }
+    if answers.len() != count {
+        return 10;
+    }
+    if refusals.len() != count {
+        return 10;
+    }
+    let operands = raw::operands(words::kernel_number(op));
+    if operands == 0 {
+        return 6;
+    }
+    fill(op, operands, first, second, answers, refusals);
+    0
+}
+
+// Fills every place, by the single call.
+fn fill(
+    op: u32,
+    operands: u32,
+    first: &[u32],
+    second: &[u32],
+    answers: &mut [u32],
+    refusals: &mut [u32],
+)
+    requires { ⌜ (operands ≡ operandsIn op) × (length (now second) ≡ length (now first)) × (length (now answers) ≡ length (now first)) × (length (now refusals) ≡ length (now first)) ⌝ }
+    ensures words { λ r. ⌜ now (answers .exit) ≡ zipped (wordAt op) (now (first .entry)) (now (second .entry)) ⌝ }
+    ensures numbers { λ r. ⌜ now (refusals .exit) ≡ zipped (refusalAt op) (now (first .entry)) (now (second .entry)) ⌝ }
+{
+    let mut i: usize = 0;
+    while i < first.len() {
+        let words = words::answer(op, first[i], used(operands, second[i]));
+        answers[i] = (words % 0x1_0000_0000) as u32;
+        refusals[i] = (words >> 32) as u32;
+        i = i + 1;
+    }
+}
+
+// The second word, where an operation of so many operands is handed it.
+fn used(operands: u32, b: u32) -> u32
+    ensures { λ r. ⌜ r ≡ used operands b ⌝ }
+{
+    if operands == 2 {
+        return b;
+    }
+    0
+}
