@@ -36,11 +36,11 @@ run-spec =
     (λ c. (rw (agreed (c .before), eq-eqb _ 0 (sym (reads (c .before)) ∙ c .if4 .taken)), (refl, refl)))
     (λ c κs.
     let o = c .before .before .before in
-    (reads o, e3 o .before .before .if1 .left, e3 o .before .if2 .left, e3 o .if3 .left))
+    (e3 o .before .before .if1 .left, e3 o .before .if2 .left, e3 o .if3 .left))
     (λ c. search needs)
     (λ c. search needs)
     (λ c.
     let f = c .before .before .before .before in
     let e4 = f .before .before .before in
-    (rw (agreed (e4 .before), ne-eqb _ 0 (λ e. e4 .if4 .left (reads (e4 .before) ∙ e))), f .fill .ensures)) in
+    (rw (agreed (e4 .before), ne-eqb _ 0 (λ e. e4 .if4 .left (reads (e4 .before) ∙ e))), f .place-all .ensures)) in
     tie.close met
