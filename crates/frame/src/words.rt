@@ -21,7 +21,7 @@ pub fn answer(op: u32, a: u32, b: u32) -> u64
 }
 
 // From here on an operation is a raw one.
-const RAW: u32 = 0x80;
+pub const RAW: u32 = 0x80;
 
 // A kernel's number is its operation's, without the 80 of a raw one.
 pub fn kernel_number(op: u32) -> u32

@@ -2,6 +2,7 @@
 // exported call of `dampmeadow` stands on it.
 ghost use mathlib.Core.Path.{_≡_};
 ghost use lib.ListN.{length};
+ghost use Rattle.frame.specs.Words.{kernelNumber};
 ghost use Rattle.strip.specs.Strip.{operandsIn, used, wordAt, refusalAt, zipped, stripRefusal, stripLeaves};
 use frame::words;
 
@@ -28,61 +29,60 @@ pub fn run(op: u32, first: &[u32], second: &[u32], answers: &mut [u32], refusals
     if raw::operands(words::kernel_number(op)) == 0 {
         return 6;
     }
-    place_all(op, first, second, answers, refusals);
+    fill_all(op, first, second, answers, refusals);
     0
 }
 
-// Fills every place. The operation is found here, once: with its number written out, the loop is
-// compiled for its kernel alone.
-fn place_all(op: u32, first: &[u32], second: &[u32], answers: &mut [u32], refusals: &mut [u32])
+// Fills every place of lists that have one length. The operation is found here, once: with its number
+// written out, a loop is compiled for its kernel alone.
+fn fill_all(op: u32, first: &[u32], second: &[u32], answers: &mut [u32], refusals: &mut [u32])
     requires { ⌜ (length (now second) ≡ length (now first)) × (length (now answers) ≡ length (now first)) × (length (now refusals) ≡ length (now first)) ⌝ }
     ensures words { λ r. ⌜ now (answers .exit) ≡ zipped (wordAt op) (now (first .entry)) (now (second .entry)) ⌝ }
     ensures numbers { λ r. ⌜ now (refusals .exit) ≡ zipped (refusalAt op) (now (first .entry)) (now (second .entry)) ⌝ }
 {
-    match op {
-        0x01 => fill(0x01, first, second, answers, refusals),
-        0x02 => fill(0x02, first, second, answers, refusals),
-        0x03 => fill(0x03, first, second, answers, refusals),
-        0x04 => fill(0x04, first, second, answers, refusals),
-        0x05 => fill(0x05, first, second, answers, refusals),
-        0x06 => fill(0x06, first, second, answers, refusals),
-        0x07 => fill(0x07, first, second, answers, refusals),
-        0x08 => fill(0x08, first, second, answers, refusals),
-        0x09 => fill(0x09, first, second, answers, refusals),
-        0x0a => fill(0x0a, first, second, answers, refusals),
-        0x0b => fill(0x0b, first, second, answers, refusals),
-        0x0c => fill(0x0c, first, second, answers, refusals),
-        0x0d => fill(0x0d, first, second, answers, refusals),
-        0x0e => fill(0x0e, first, second, answers, refusals),
-        0x0f => fill(0x0f, first, second, answers, refusals),
-        0x10 => fill(0x10, first, second, answers, refusals),
-        0x11 => fill(0x11, first, second, answers, refusals),
-        0x12 => fill(0x12, first, second, answers, refusals),
-        0x13 => fill(0x13, first, second, answers, refusals),
-        0x14 => fill(0x14, first, second, answers, refusals),
-        0x15 => fill(0x15, first, second, answers, refusals),
-        0x81 => fill(0x81, first, second, answers, refusals),
-        0x82 => fill(0x82, first, second, answers, refusals),
-        0x83 => fill(0x83, first, second, answers, refusals),
-        0x84 => fill(0x84, first, second, answers, refusals),
-        0x85 => fill(0x85, first, second, answers, refusals),
-        0x86 => fill(0x86, first, second, answers, refusals),
-        0x87 => fill(0x87, first, second, answers, refusals),
-        0x88 => fill(0x88, first, second, answers, refusals),
-        0x89 => fill(0x89, first, second, answers, refusals),
-        0x8a => fill(0x8a, first, second, answers, refusals),
-        0x8b => fill(0x8b, first, second, answers, refusals),
-        0x8c => fill(0x8c, first, second, answers, refusals),
-        0x8d => fill(0x8d, first, second, answers, refusals),
-        0x8e => fill(0x8e, first, second, answers, refusals),
-        0x8f => fill(0x8f, first, second, answers, refusals),
-        0x90 => fill(0x90, first, second, answers, refusals),
-        0x91 => fill(0x91, first, second, answers, refusals),
-        0x92 => fill(0x92, first, second, answers, refusals),
-        0x93 => fill(0x93, first, second, answers, refusals),
-        0x94 => fill(0x94, first, second, answers, refusals),
-        0x95 => fill(0x95, first, second, answers, refusals),
+    match words::kernel_number(op) {
+        0x01 => fill_kernel(0x01, op, first, second, answers, refusals),
+        0x02 => fill_kernel(0x02, op, first, second, answers, refusals),
+        0x03 => fill_kernel(0x03, op, first, second, answers, refusals),
+        0x04 => fill_kernel(0x04, op, first, second, answers, refusals),
+        0x05 => fill_kernel(0x05, op, first, second, answers, refusals),
+        0x06 => fill_kernel(0x06, op, first, second, answers, refusals),
+        0x07 => fill_kernel(0x07, op, first, second, answers, refusals),
+        0x08 => fill_kernel(0x08, op, first, second, answers, refusals),
+        0x09 => fill_kernel(0x09, op, first, second, answers, refusals),
+        0x0a => fill_kernel(0x0a, op, first, second, answers, refusals),
+        0x0b => fill_kernel(0x0b, op, first, second, answers, refusals),
+        0x0c => fill_kernel(0x0c, op, first, second, answers, refusals),
+        0x0d => fill_kernel(0x0d, op, first, second, answers, refusals),
+        0x0e => fill_kernel(0x0e, op, first, second, answers, refusals),
+        0x0f => fill_kernel(0x0f, op, first, second, answers, refusals),
+        0x10 => fill_kernel(0x10, op, first, second, answers, refusals),
+        0x11 => fill_kernel(0x11, op, first, second, answers, refusals),
+        0x12 => fill_kernel(0x12, op, first, second, answers, refusals),
+        0x13 => fill_kernel(0x13, op, first, second, answers, refusals),
+        0x14 => fill_kernel(0x14, op, first, second, answers, refusals),
+        0x15 => fill_kernel(0x15, op, first, second, answers, refusals),
         _ => fill(op, first, second, answers, refusals),
+    }
+}
+
+// The same for a kernel, raw or guarded.
+fn fill_kernel(
+    number: u32,
+    op: u32,
+    first: &[u32],
+    second: &[u32],
+    answers: &mut [u32],
+    refusals: &mut [u32],
+)
+    requires { ⌜ (kernelNumber op ≡ number) × (length (now second) ≡ length (now first)) × (length (now answers) ≡ length (now first)) × (length (now refusals) ≡ length (now first)) ⌝ }
+    ensures words { λ r. ⌜ now (answers .exit) ≡ zipped (wordAt op) (now (first .entry)) (now (second .entry)) ⌝ }
+    ensures numbers { λ r. ⌜ now (refusals .exit) ≡ zipped (refusalAt op) (now (first .entry)) (now (second .entry)) ⌝ }
+{
+    if op >= words::RAW {
+        fill(words::RAW + number, first, second, answers, refusals);
+    } else {
+        fill(number, first, second, answers, refusals);
     }
 }
 

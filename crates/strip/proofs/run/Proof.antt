@@ -42,5 +42,5 @@ run-spec =
     (λ c.
     let f = c .before .before .before .before in
     let e4 = f .before .before .before in
-    (rw (agreed (e4 .before), ne-eqb _ 0 (λ e. e4 .if4 .left (reads (e4 .before) ∙ e))), f .place-all .ensures)) in
+    (rw (agreed (e4 .before), ne-eqb _ 0 (λ e. e4 .if4 .left (reads (e4 .before) ∙ e))), f .fill-all .ensures)) in
     tie.close met
