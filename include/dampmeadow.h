@@ -78,8 +78,9 @@ enum dampmeadow_operation {
 
 /* ---- The refusals
  *
- * Where more than one of them holds, the first in the column "looked at" is given. Raw forms are refused with 6 and 7 alone.
- * Later versions have more of them: take every number but 0 for a refusal.
+ * Where more than one of them holds, the first in the column "looked at" is given. Raw forms are never refused with 1 to 5.
+ * 8 is given by dampmeadow_answer alone, and 10 by dampmeadow_strip alone. Later versions have more of them: take every number
+ * but 0 for a refusal.
  */
 enum dampmeadow_refusal {                  /* looked at    given when                                                 */
     DAMPMEADOW_ANSWERED = 0,               /*              there is an answer                                         */
@@ -93,7 +94,8 @@ enum dampmeadow_refusal {                  /* looked at    given when           
     DAMPMEADOW_NO_SUCH_OPERATION = 6,      /* second       no operation has this number                               */
     DAMPMEADOW_MALFORMED = 7,              /* first        the line is no frame; or, after 6 and before 1, the second */
                                            /*              word is not used by this operation and is not 0            */
-    DAMPMEADOW_NO_ROOM = 8                 /* before all   the space for the answer has fewer than 11 bytes           */
+    DAMPMEADOW_NO_ROOM = 8,                /* before all   the space for the answer has fewer than 11 bytes           */
+    DAMPMEADOW_LENGTHS = 10                /* before 6     the lists of a strip have not all one length               */
 };
 
 /* ---- The calls */
@@ -110,6 +112,30 @@ enum dampmeadow_refusal {                  /* looked at    given when           
  *   dampmeadow_words(DAMPMEADOW_RAW + DAMPMEADOW_SQRT, 0x80000000, 0) == 0x5fc00000     what micromath gives for -0
  */
 uint64_t dampmeadow_words(uint32_t op, uint32_t a, uint32_t b);
+
+/* Calls an operation for each place of a strip: lists of words in, a list of words and a list of refusals out.
+ *
+ * In:   op, an operation, with DAMPMEADOW_RAW added for its raw form.
+ *       first and second, the operands' words. An operation of one operand does not look at the second list: lend the first
+ *       twice. powi's second list holds its powers: (uint32_t)-3 for -3. Floats are made words by dampmeadow_bits or memcpy,
+ *       since neither C nor C++ lets a list of them be lent by a cast.
+ *       answers and refusals, where the answers' words and the refusals are to be put. They overlap neither each other nor
+ *       first or second.
+ *       The count after each list is how many places it has. The four counts are the same, and may be any number, 0 too. No
+ *       pointer is NULL, not even an empty list's; what an empty std::vector gives may be.
+ * Back: 0, and each place holds what dampmeadow_words gives for it: in refusals the refusal, 0 where there is none, and in
+ *       answers the word, 0 with a refusal. A refused place changes no other. 7 is at no place, since a second word that is
+ *       not used is taken for 0. A strip that is cut anywhere gives the same lists, piece by piece.
+ *       Or it is refused: with 10 where the counts differ, and else with 6 where no operation has this number. Then nothing is
+ *       written.
+ *
+ *   const uint32_t first[3] = {0x40800000, 0xbf800000, 0x00000000};
+ *   uint32_t answers[3], refusals[3];
+ *   dampmeadow_strip(DAMPMEADOW_SQRT, first, 3, first, 3, answers, 3, refusals, 3) == 0
+ *                                       sqrt of 4, -1 and 0: answers is 0x40000000, 0, 0, and refusals is 0, 3, 2
+ */
+uint32_t dampmeadow_strip(uint32_t op, const uint32_t *first, size_t first_count, const uint32_t *second, size_t second_count,
+                          uint32_t *answers, size_t answers_count, uint32_t *refusals, size_t refusals_count);
 
 /* The arctangent as a share of a quarter turn, guarded. It has no operation number.
  *
