@@ -34,6 +34,18 @@ static void parts(const char *what, uint32_t a, uint32_t refusal, uint32_t whole
     hold(what, r, rest);
 }
 
+/* A strip over 4, -1 and 0: what is returned, and then each place, refusal above word. `lent` is how many places of each list
+ * are lent. Without a second list the first is lent twice, and without a list of what is due each place has to stay. */
+static void strip(const char *what, uint32_t op, const uint32_t *second, const size_t *lent, uint32_t refusal,
+                  const uint64_t *due)
+{
+    const uint32_t first[3] = {0x40800000, 0xbf800000, 0x00000000};
+    uint32_t answers[3] = {9, 9, 9}, refusals[3] = {9, 9, 9};
+    if (!second) second = first;
+    hold(what, dampmeadow_strip(op, first, lent[0], second, lent[1], answers, lent[2], refusals, lent[3]), refusal);
+    for (int i = 0; i < 3; i++) hold(what, (uint64_t)refusals[i] << 32 | answers[i], due ? due[i] : 0x900000009);
+}
+
 /* A line of text into a space of 16 bytes, of which `room` are lent: the refusal, the answer, and the bytes that stay. */
 static void line(const char *text, size_t room, uint32_t refusal, const char *answer)
 {
@@ -102,6 +114,26 @@ int main(void)
     parts("the parts of the last below 2^32", 0x4f7fffff, DAMPMEADOW_ANSWERED, 0x4f7fffff, 0);
     parts("the parts of 2^32", 0x4f800000, DAMPMEADOW_OUTSIDE, 0, 0);
     parts("the parts of a NaN", nan, DAMPMEADOW_NOT_FINITE, 0, 0);
+
+    const size_t all[4] = {3, 3, 3, 3}, two[4] = {2, 2, 2, 2}, none[4] = {0, 0, 0, 0};
+    const uint32_t powers[3] = {(uint32_t)-1, (uint32_t)-1048577, 1};
+    const uint64_t roots[3] = {0x40000000, 0x300000000, 0x200000000}, fewer[3] = {0x40000000, 0x300000000, 0x900000009};
+    const uint64_t raised[3] = {0x3e800000, 0x500000000, 0x200000000}, bare[3] = {0x40000000, nan, 0x1fc00000};
+    strip("a strip of sqrt", DAMPMEADOW_SQRT, NULL, all, DAMPMEADOW_ANSWERED, roots);
+    strip("a strip of sqrt, beside a second list", DAMPMEADOW_SQRT, powers, all, DAMPMEADOW_ANSWERED, roots);
+    strip("two places of a strip", DAMPMEADOW_SQRT, NULL, two, DAMPMEADOW_ANSWERED, fewer);
+    strip("a strip of powi", DAMPMEADOW_POWI, powers, all, DAMPMEADOW_ANSWERED, raised);
+    strip("a strip of raw sqrt", DAMPMEADOW_RAW + DAMPMEADOW_SQRT, powers, all, DAMPMEADOW_ANSWERED, bare);
+    strip("a strip of no places", DAMPMEADOW_SQRT, NULL, none, DAMPMEADOW_ANSWERED, NULL);
+    strip("a strip of operation 16", 0x16, NULL, all, DAMPMEADOW_NO_SUCH_OPERATION, NULL);
+    strip("a strip of operation 109", 0x109, NULL, all, DAMPMEADOW_NO_SUCH_OPERATION, NULL);
+    strip("a strip of operation 16 and no places", 0x16, NULL, none, DAMPMEADOW_NO_SUCH_OPERATION, NULL);
+    for (int list = 0; list < 4; list++) for (size_t places = 1; places <= 3; places += 2) {
+        size_t lent[4] = {2, 2, 2, 2};
+        lent[list] = places;
+        strip("a strip with one list of another length", DAMPMEADOW_SQRT, NULL, lent, DAMPMEADOW_LENGTHS, NULL);
+        strip("the same of operation 16", 0x16, NULL, lent, DAMPMEADOW_LENGTHS, NULL);
+    }
 
     line("094080000000000000", 16, DAMPMEADOW_ANSWERED, "0040000000\n");
     line("898000000000000000", 11, DAMPMEADOW_ANSWERED, "005fc00000\n");

@@ -3,6 +3,7 @@
 #include "dampmeadow.h"
 #include <cstdio>
 #include <string>
+#include <vector>
 
 namespace {
 
@@ -36,6 +37,27 @@ void parts(const char *what, float x, uint32_t refusal, float whole, float rest)
     hold(what, {got, dampmeadow_float(r)}, {refusal, rest});
 }
 
+// The words of some floats, and one word more, which is not lent: an empty vector may have NULL for its data.
+std::vector<uint32_t> words(const std::vector<float> &numbers)
+{
+    std::vector<uint32_t> list;
+    for (const float number : numbers) list.push_back(dampmeadow_bits(number));
+    list.push_back(dampmeadow_bits(-9.0f));
+    return list;
+}
+
+// A strip into lists of as many places as are due. They hold refusal 9 and -9 before, and so does the place after the last.
+void strip(const char *what, uint32_t op, const std::vector<float> &x, const std::vector<float> &y, uint32_t refusal, std::vector<Answer> due)
+{
+    const std::vector<uint32_t> first = words(x), second = words(y);
+    const std::size_t places = due.size();
+    due.push_back({9, -9.0f});
+    std::vector<uint32_t> answers(due.size(), dampmeadow_bits(-9.0f)), refusals(due.size(), 9);
+    const uint32_t got = dampmeadow_strip(op, first.data(), x.size(), second.data(), y.size(), answers.data(), places, refusals.data(), places);
+    hold(what, {got, 0.0f}, {refusal, 0.0f});
+    for (std::size_t i = 0; i < due.size(); i++) hold(what, {refusals[i], dampmeadow_float(answers[i])}, due[i]);
+}
+
 void line(const std::string &text, const std::string &due)
 {
     tried++;
@@ -63,6 +85,13 @@ int main()
     hold("atan_norm 1", {0, dampmeadow_float(dampmeadow_atan_norm(0x3f800000))}, {0, 0.5f});
     parts("the parts of -2.5", -2.5f, DAMPMEADOW_ANSWERED, -2.0f, -0.5f);
     parts("the parts of 1e10", 1e10f, DAMPMEADOW_OUTSIDE, 0.0f, 0.0f);
+    const std::vector<float> film = {4.0f, -1.0f, 0.0f};
+    strip("a strip of sqrt", DAMPMEADOW_SQRT, film, film, DAMPMEADOW_ANSWERED, {{0, 2.0f}, {DAMPMEADOW_NEGATIVE, 0.0f}, {DAMPMEADOW_BLACK, 0.0f}});
+    strip("a strip of hypot", DAMPMEADOW_HYPOT, {3.0f, 0.0f}, {4.0f, 0.0f}, DAMPMEADOW_ANSWERED, {{0, 5.125f}, {DAMPMEADOW_OUTSIDE, 0.0f}});
+    strip("a strip of no places", DAMPMEADOW_HYPOT, {}, {}, DAMPMEADOW_ANSWERED, {});
+    strip("a strip with a short second list", DAMPMEADOW_SQRT, {4.0f}, {}, DAMPMEADOW_LENGTHS, {{9, -9.0f}});
+    strip("a strip of operation 16", 0x16, {4.0f}, {4.0f}, DAMPMEADOW_NO_SUCH_OPERATION, {{9, -9.0f}});
+    strip("a strip of operation 16 and no places", 0x16, {}, {}, DAMPMEADOW_NO_SUCH_OPERATION, {});
     line("094080000000000000", "0040000000");
     line("a frame is eighteen digits", "0700000000");
 
