@@ -1,9 +1,9 @@
 use core::error::Error;
 use core::fmt::{Display, Formatter, Result};
 
-/// Why there is no answer. Where more than one holds, the first of these is given: 8; 7 for a line that is no frame; 6; 7 for a
-/// second word that should be 0; then 1, 2, 3, 4, 5. Later versions of the library have more of them, so a `match` ends with
-/// `_`. One displays its number and what it says.
+/// Why there is no answer. Where more than one holds, the first of these is given: 8; 7 for a line that is no frame; 10; 6; 7
+/// for a second word that should be 0; then 1, 2, 3, 4, 5. Later versions of the library have more of them, so a `match` ends
+/// with `_`. One displays its number and what it says.
 ///
 /// ```
 /// use dampmeadow::{sqrt, Refusal};
@@ -31,13 +31,15 @@ pub enum Refusal {
     Malformed,
     /// 8: the space for an answer has fewer than eleven bytes.
     NoRoom,
+    /// 10: the lists of a strip have not all one length.
+    Lengths,
     /// One that this version does not know, by its number. It is never one of those above.
     #[non_exhaustive]
     Unknown { number: u32 },
 }
 
 impl Refusal {
-    /// Every refusal that this version knows, in the order of their numbers, from 1.
+    /// Every refusal that this version knows, in the order of their numbers. There is none of number 9.
     pub const ALL: &'static [Refusal] = &[
         Refusal::NotFinite,
         Refusal::Black,
@@ -47,6 +49,7 @@ impl Refusal {
         Refusal::NoSuchOperation,
         Refusal::Malformed,
         Refusal::NoRoom,
+        Refusal::Lengths,
     ];
 
     /// Its number, which is never 0.
@@ -60,6 +63,7 @@ impl Refusal {
             Refusal::NoSuchOperation => 6,
             Refusal::Malformed => 7,
             Refusal::NoRoom => 8,
+            Refusal::Lengths => 10,
             Refusal::Unknown { number } => number,
         }
     }
@@ -73,8 +77,11 @@ impl Refusal {
     /// assert_eq!(Refusal::from_number(99).map(Refusal::number), Some(99));
     /// ```
     pub fn from_number(number: u32) -> Option<Refusal> {
-        let place = number.checked_sub(1)? as usize;
-        Some(Refusal::ALL.get(place).copied().unwrap_or(Refusal::Unknown { number }))
+        if number == 0 {
+            return None;
+        }
+        let known = Refusal::ALL.iter().copied().find(|refusal| refusal.number() == number);
+        Some(known.unwrap_or(Refusal::Unknown { number }))
     }
 }
 
@@ -89,6 +96,7 @@ impl Display for Refusal {
             Refusal::NoSuchOperation => "refusal 6: no operation has this number",
             Refusal::Malformed => "refusal 7: the line is no frame, or its second word should be 0",
             Refusal::NoRoom => "refusal 8: the space for the answer has fewer than 11 bytes",
+            Refusal::Lengths => "refusal 10: the lists have not all one length",
             Refusal::Unknown { number } => return write!(out, "refusal {number}: not known to this version of the binding"),
         })
     }

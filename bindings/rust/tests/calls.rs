@@ -138,10 +138,14 @@ fn a_frame_and_a_call_agree() {
 
 #[test]
 fn a_refusal_is_an_error_with_its_number() {
-    for (number, &refusal) in (1..).zip(Refusal::ALL) {
-        assert_eq!(refusal.number(), number);
-        assert_eq!(Refusal::from_number(number), Some(refusal));
-        assert!(refusal.to_string().starts_with(&format!("refusal {number}: ")));
+    let numbers: Vec<u32> = Refusal::ALL.iter().map(|refusal| refusal.number()).collect();
+    assert_eq!(numbers, [1, 2, 3, 4, 5, 6, 7, 8, 10]);
+    for &refusal in Refusal::ALL {
+        assert_eq!(Refusal::from_number(refusal.number()), Some(refusal));
+        assert!(refusal.to_string().starts_with(&format!("refusal {}: ", refusal.number())));
+    }
+    for number in 0..=20 {
+        assert_eq!(Refusal::from_number(number).map_or(0, Refusal::number), number);
     }
     let asked: Result<f32, Box<dyn Error>> = exp(f32::NAN).map_err(Box::from);
     assert_eq!(asked.unwrap_err().to_string(), "refusal 1: an operand is an infinity or a NaN");
@@ -150,7 +154,7 @@ fn a_refusal_is_an_error_with_its_number() {
 #[test]
 fn a_number_that_is_not_known_yet_is_a_refusal_too() {
     assert_eq!(Refusal::from_number(0), None);
-    for number in (9..300).chain([u32::MAX]) {
+    for number in [9].into_iter().chain(11..300).chain([u32::MAX]) {
         let refusal = Refusal::from_number(number).unwrap();
         assert!(matches!(refusal, Refusal::Unknown { number: n, .. } if n == number));
         assert_eq!(refusal.number(), number);
