@@ -21,8 +21,8 @@
 //!
 //! The kernels are those of micromath, to the bit: quick estimates, some of them percents off. [`raw`] gives what micromath
 //! gives for every word, NaN and infinity among them, but for four cases that docs/DIFFERENCES.md lists. [`call`] takes any
-//! operation by its number, and [`answer`] a frame, which is a line of text. Nothing is kept between calls, so they may be made
-//! from any thread.
+//! operation by its number, [`strip`] the same over whole lists, and [`answer`] a frame, which is a line of text. Nothing is
+//! kept between calls, so they may be made from any thread.
 //!
 //! The build script finds the library, or proves and builds it, which takes a minute or two the first time; where it cannot, it
 //! says what is missing.
@@ -33,10 +33,12 @@
 mod kernels;
 mod operation;
 mod refusal;
+mod strip;
 
 pub use kernels::*;
 pub use operation::Operation;
 pub use refusal::Refusal;
+pub use strip::{bits, bits_mut, powers, strip};
 
 /// The bytes of an answer to a frame.
 pub const ANSWER_LENGTH: usize = 11;
@@ -45,6 +47,17 @@ pub const ANSWER_LENGTH: usize = 11;
 mod exported {
     extern "C" {
         pub fn dampmeadow_words(op: u32, a: u32, b: u32) -> u64;
+        pub fn dampmeadow_strip(
+            op: u32,
+            first: *const u32,
+            first_count: usize,
+            second: *const u32,
+            second_count: usize,
+            answers: *mut u32,
+            answers_count: usize,
+            refusals: *mut u32,
+            refusals_count: usize,
+        ) -> u32;
         pub fn dampmeadow_answer(line: *const u8, length: usize, space: *mut u8, room: usize) -> u32;
         pub fn dampmeadow_atan_norm(a: u32) -> u32;
         pub fn dampmeadow_atan_norm_guarded(a: u32) -> u64;

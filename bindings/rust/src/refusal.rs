@@ -31,7 +31,7 @@ pub enum Refusal {
     Malformed,
     /// 8: the space for an answer has fewer than eleven bytes.
     NoRoom,
-    /// 10: the lists of a strip have not all one length.
+    /// 10: the lists of a [`strip`](crate::strip) have not all one length.
     Lengths,
     /// One that this version does not know, by its number. It is never one of those above.
     #[non_exhaustive]
