@@ -1,17 +1,10 @@
 //! The calls together: numbers, edges of the gates, and what a space holds after an answer.
 
+mod words;
+
 use dampmeadow::*;
 use std::error::Error;
-
-/// Words of every kind: zeros, the ends of the normal numbers, small and large ones, infinities and NaN.
-const WORDS: [u32; 16] = [
-    0x00000000, 0x00000001, 0x007fffff, 0x00800000, 0x21800000, 0x3effffff, 0x3f000000, 0x3f800000, 0x40200000, 0x42b00000,
-    0x44800000, 0x4f000000, 0x5d800000, 0x7f7fffff, 0x7f800000, 0x7fc00001,
-];
-
-fn words() -> impl Iterator<Item = u32> {
-    WORDS.into_iter().flat_map(|word| [word, word | 0x8000_0000])
-}
+use words::words;
 
 #[test]
 fn a_guarded_answer_is_the_raw_one_and_no_nan() {
