@@ -4,9 +4,9 @@
  *
  * Makes a grey picture of 96 by 64 pixels: a white sky, a wire across it, a snowy roof with grain, one dead cell and some
  * specks of dust. Each pixel has a horizontal and a vertical difference, and from these a strength (guarded hypot) and a
- * direction (guarded atan2). Where the library refuses, the pixel is counted by its refusal and left alone: in flat white
- * both differences are 0, and 0 and 0 have no direction. A dust speck has edges that point all ways round; a roof line or
- * a wire does not, however strong it is.
+ * direction (guarded atan2), worked out a row at a time. Where the library refuses, the pixel is counted by its refusal and
+ * left alone: in flat white both differences are 0, and 0 and 0 have no direction. A dust speck has edges that point all ways
+ * round; a roof line or a wire does not, however strong it is.
  *
  * Writes FOLDER/specks.pgm, the picture as scanned, and FOLDER/marked.ppm, the same with the specks in red, what was
  * refused as not finite in blue and what was refused for its two differences of 0 in pale yellow.
@@ -15,16 +15,16 @@
 #include <stdio.h>
 #include "dampmeadow.h"
 
-enum { WIDE = 96, HIGH = 64, NEAR = 3, REFUSALS = 9 };
+enum { WIDE = 96, HIGH = 64, INNER = WIDE - 2, NEAR = 3, REFUSALS = 11 }; /* INNER pixels of a row have both neighbours */
 
 static const float STRONG = 14.0f;  /* grey levels a pixel; the grain stays below it */
 static const float QUARTER = 1.57079633f;
 
-static float scan[HIGH][WIDE];      /* grey, 0 to 255; the dead cell is a NaN */
-static float strength[HIGH][WIDE];
-static float direction[HIGH][WIDE]; /* radians; 0 points right, a quarter turn down */
-static int refused[HIGH][WIDE];     /* the refusal, 0 where answered */
-static int marked[HIGH][WIDE];      /* 0, or the number of its speck */
+static float scan[HIGH][WIDE];         /* grey, 0 to 255; the dead cell is a NaN */
+static uint32_t strength[HIGH][WIDE];  /* a float's word, as the library gives it */
+static uint32_t direction[HIGH][WIDE]; /* the same, in radians; 0 points right, a quarter turn down */
+static uint32_t refused[HIGH][WIDE];   /* the refusal, 0 where answered */
+static int marked[HIGH][WIDE];         /* 0, or the number of its speck */
 
 
 /* ---- the picture ---- */
@@ -75,24 +75,27 @@ static void make_picture(void)
 
 /* ---- strength and direction ---- */
 
-static int score(int x, int y)
+/* Scores a row by two strips. Gives the refusal of a strip as a whole, 0 where there is none. */
+static uint32_t score(int y)
 {
-    uint32_t across = dampmeadow_bits((scan[y][x + 1] - scan[y][x - 1]) / 2);
-    uint32_t down = dampmeadow_bits((scan[y + 1][x] - scan[y - 1][x]) / 2);
-    uint64_t how_strong = dampmeadow_words(DAMPMEADOW_HYPOT, across, down);
-    uint64_t which_way = dampmeadow_words(DAMPMEADOW_ATAN2, down, across); /* y first */
-    int refusal = (int)dampmeadow_refusal_of(how_strong);
-    if (refusal == 0) refusal = (int)dampmeadow_refusal_of(which_way);
-    if (refusal == 0) {
-        strength[y][x] = dampmeadow_float(dampmeadow_word_of(how_strong));
-        direction[y][x] = dampmeadow_float(dampmeadow_word_of(which_way));
+    uint32_t across[INNER], down[INNER], undirected[INNER];
+    for (int x = 1; x <= INNER; x++) {
+        across[x - 1] = dampmeadow_bits((scan[y][x + 1] - scan[y][x - 1]) / 2);
+        down[x - 1] = dampmeadow_bits((scan[y + 1][x] - scan[y - 1][x]) / 2);
     }
-    return refusal;
+    uint32_t whole = dampmeadow_strip(DAMPMEADOW_HYPOT, across, INNER, down, INNER,
+                                      &strength[y][1], INNER, &refused[y][1], INNER);
+    if (whole != 0) return whole;
+    whole = dampmeadow_strip(DAMPMEADOW_ATAN2, down, INNER, across, INNER, /* y first */
+                             &direction[y][1], INNER, undirected, INNER);
+    if (whole != 0) return whole;
+    for (int x = 1; x <= INNER; x++) if (refused[y][x] == 0) refused[y][x] = undirected[x - 1];
+    return 0;
 }
 
 static int strong(int x, int y)
 {
-    return x > 0 && y > 0 && x < WIDE - 1 && y < HIGH - 1 && refused[y][x] == 0 && strength[y][x] > STRONG;
+    return x > 0 && y > 0 && x < WIDE - 1 && y < HIGH - 1 && refused[y][x] == 0 && dampmeadow_float(strength[y][x]) > STRONG;
 }
 
 /* right, down, left or up: the quarter turn in whose middle the direction lies */
@@ -109,7 +112,7 @@ static int all_round(int x, int y)
 {
     int seen = 0;
     for (int v = y - NEAR; v <= y + NEAR; v++) for (int u = x - NEAR; u <= x + NEAR; u++)
-        if (strong(u, v)) seen |= 1 << side(direction[v][u]);
+        if (strong(u, v)) seen |= 1 << side(dampmeadow_float(direction[v][u]));
     return seen == 15;
 }
 
@@ -151,16 +154,16 @@ int main(int argc, char **argv)
     static const char *const why[REFUSALS] = {
         "answered", "a difference is not finite", "the first operand is 0", "the first operand is negative",
         "outside what the operation takes: both differences are 0", "the power is out of range", "no such operation",
-        "malformed", "too little space",
+        "malformed", "too little space", "not in use", "lists of different lengths",
     };
     int count[REFUSALS] = {0}, edges = 0, pixels = 0, found = 0, hit[DUST] = {0}, astray = 0;
     if (argc != 2) { fprintf(stderr, "specks: wants the folder for its pictures\n"); return 2; }
 
     make_picture();
-    for (int y = 1; y < HIGH - 1; y++) for (int x = 1; x < WIDE - 1; x++) {
-        refused[y][x] = score(x, y);
-        count[refused[y][x]]++;
-        edges += strong(x, y);
+    for (int y = 1; y < HIGH - 1; y++) {
+        uint32_t whole = score(y);
+        if (whole != 0) { fprintf(stderr, "specks: row %d is refused with %d: %s\n", y, (int)whole, why[whole]); return 2; }
+        for (int x = 1; x < WIDE - 1; x++) count[refused[y][x]]++, edges += strong(x, y);
     }
     for (int y = 1; y < HIGH - 1; y++) for (int x = 1; x < WIDE - 1; x++)
         if (strong(x, y) && all_round(x, y)) marked[y][x] = -1, pixels++;
@@ -178,7 +181,7 @@ int main(int argc, char **argv)
             if (u > right) right = u;
             if (v < top) top = v;
             if (v > foot) foot = v;
-            if (strength[v][u] > most) most = strength[v][u];
+            if (dampmeadow_float(strength[v][u]) > most) most = dampmeadow_float(strength[v][u]);
         }
         float mx = (left + right) / 2.0f, my = (top + foot) / 2.0f;
         int known = 0;
