@@ -68,24 +68,6 @@ pub enum Call {
     Own(fn(u32, u32) -> u64),
 }
 
-/// One call of ours, with what it gives and what it should.
-#[derive(Clone)]
-pub struct Trial {
-    pub call: String,
-    pub a: u32,
-    pub b: Option<u32>,
-    /// Nothing where the crate's word is a NaN and the call may give none.
-    pub expected: Option<u64>,
-    pub ours: u64,
-}
-
-impl Trial {
-    /// The call and its words.
-    pub fn asked(&self) -> String {
-        format!("{} of {:08x}{}", self.call, self.a, self.b.map_or(String::new(), |b| format!(" {b:08x}")))
-    }
-}
-
 pub struct Kernel {
     pub name: &'static str,
     pub call: Call,
@@ -112,6 +94,14 @@ impl Kernel {
             Call::Number(n) => format!("{n:02x}"),
             Call::Own(_) if self.is_guarded() => format!("{} guarded", self.name),
             Call::Own(_) => self.name.to_string(),
+        }
+    }
+
+    /// Its number among the operations, if it has one.
+    pub fn number(&self) -> Option<u32> {
+        match self.call {
+            Call::Number(n) => Some(n),
+            Call::Own(_) => None,
         }
     }
 
@@ -165,9 +155,10 @@ impl Kernel {
         }
     }
 
-    /// One call of ours, with what it should give.
-    pub fn trial(&self, a: u32, b: u32, expected: Option<u64>) -> Trial {
-        Trial { call: self.label(), a, b: if self.takes == Takes::One { None } else { Some(b) }, expected, ours: self.ours(a, b) }
+    /// The call with the words that it takes.
+    pub fn asked(&self, a: u32, b: u32) -> String {
+        let second = if self.takes == Takes::One { String::new() } else { format!(" {b:08x}") };
+        format!("{} of {a:08x}{second}", self.label())
     }
 }
 

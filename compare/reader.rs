@@ -1,7 +1,7 @@
 //! Frames read and answered: lines in, answers out. Nothing here is taken from the library. The raw words are the crate's, the
 //! refusals are those of `gates.rs`, and what runs skip is answered by the rules of docs/DIFFERENCES.md.
 
-use crate::kernels::{all, Call, Kernel, Takes};
+use crate::kernels::{all, Kernel, Takes};
 use std::io::{self, BufRead, Write};
 
 pub struct Reader {
@@ -13,7 +13,7 @@ impl Reader {
     pub fn new() -> Reader {
         let mut kernels: Vec<Option<Kernel>> = (0..256).map(|_| None).collect();
         for kernel in all() {
-            if let Call::Number(n) = kernel.call {
+            if let Some(n) = kernel.number() {
                 kernels[n as usize] = Some(kernel);
             }
         }

@@ -1,11 +1,21 @@
 //! Going over the words, on every core, with a line of progress.
 
-use crate::kernels::{Kernel, Takes, Trial, NAN};
+use crate::kernels::{Kernel, Takes, NAN};
 use crate::words::{edges, Random};
 use std::io::{IsTerminal, Write};
 use std::sync::atomic::{AtomicU64, Ordering};
 use std::sync::Mutex;
 use std::time::{Duration, Instant};
+
+/// One call of ours, with what it gives and what it should.
+#[derive(Clone)]
+pub struct Trial {
+    /// The call and its words.
+    asked: String,
+    /// Nothing where the crate's word is a NaN and the call may give none.
+    expected: Option<u64>,
+    ours: u64,
+}
 
 #[derive(Default)]
 pub struct Count {
@@ -21,11 +31,13 @@ pub struct Count {
 }
 
 impl Count {
-    pub fn judge(&mut self, trial: Trial) {
+    /// Counts a trial. What was asked is told only of the first that differs.
+    #[inline(always)]
+    pub fn judge(&mut self, expected: Option<u64>, ours: u64, asked: impl FnOnce() -> String) {
         self.tried += 1;
-        if trial.expected != Some(trial.ours) {
+        if expected != Some(ours) {
             self.differ += 1;
-            self.first.get_or_insert(trial);
+            self.first.get_or_insert_with(|| Trial { asked: asked(), expected, ours });
         }
     }
 
@@ -45,11 +57,11 @@ pub fn line(label: &str, count: &Count) -> String {
         line += &format!(", {} skipped", count.skipped);
     }
     if let Some((t, theirs)) = &count.first_built {
-        line += &format!(", {} where the crate built a NaN from bits (the first: {} is {theirs:08x} there and {} here)", count.built, t.asked(), written(t.ours));
+        line += &format!(", {} where the crate built a NaN from bits (the first: {} is {theirs:08x} there and {} here)", count.built, t.asked, written(t.ours));
     }
     if let Some(t) = &count.first {
         let expected = t.expected.map_or("no NaN".to_string(), written);
-        line += &format!("; the first: {} should be {expected} and is {}", t.asked(), written(t.ours));
+        line += &format!("; the first: {} should be {expected} and is {}", t.asked, written(t.ours));
     }
     line
 }
@@ -113,19 +125,15 @@ impl Plan {
                 count.skipped += 1;
                 continue;
             }
-            let expected = kernel.expected(a, b);
-            if expected != Some(kernel.ours(a, b)) {
-                count.differ += 1;
-                count.first.get_or_insert_with(|| kernel.trial(a, b, expected));
-            }
+            let (expected, ours) = (kernel.expected(a, b), kernel.ours(a, b));
+            count.judge(expected, ours, || kernel.asked(a, b));
             if expected == Some(NAN as u64) {
                 if let Some(theirs) = kernel.built(a, b) {
                     count.built += 1;
-                    count.first_built.get_or_insert_with(|| (kernel.trial(a, b, expected), theirs));
+                    count.first_built.get_or_insert_with(|| (Trial { asked: kernel.asked(a, b), expected, ours }, theirs));
                 }
             }
         }
-        count.tried = to - from - count.skipped;
         count
     }
 }
