@@ -35,19 +35,9 @@ impl Lines {
         self.of(op, takes)
     }
 
-    /// A frame of this operation: words that have an edge in them, words at the ends of gates, words about 1, or any.
+    /// A frame of this operation.
     pub fn of(&mut self, op: u32, takes: Takes) -> Vec<u8> {
-        let random = &mut self.random;
-        let kind = random.below(4);
-        let (a, b) = match takes {
-            Takes::One if kind == 0 => (random.one_of(&self.edges), 0),
-            Takes::One if kind == 1 => (random.near_one(), 0),
-            Takes::One => (random.operand(), 0),
-            _ if kind == 0 => (random.one_of(&self.edges), random.one_of(&self.edges)),
-            Takes::Two => random.pair(),
-            Takes::Power => random.power_or_end(),
-            Takes::FloatPower => random.float_power(),
-        };
+        let (a, b) = self.random.operands(takes, &self.edges);
         frame(op, a, b)
     }
 

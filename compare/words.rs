@@ -2,6 +2,7 @@
 //! the ends of the gates come up more often than others.
 
 use crate::gates::{ENDS, POWER_ENDS};
+use crate::kernels::Takes;
 use micromath::F32;
 
 /// A small generator of words (xorshift64*), so that a run can be repeated.
@@ -86,6 +87,21 @@ impl Random {
             // a NaN's bits are not the same on every machine
             let power = end / F32::from_bits(a).ln().0;
             (a, near(if power.is_nan() { 0x7fc0_0000 } else { power.to_bits() }, self.word()))
+        }
+    }
+
+    /// Words for a kernel that takes these, the second 0 where it is not used: words that have an edge in them, words at the ends
+    /// of gates, words about 1, or any.
+    pub fn operands(&mut self, takes: Takes, edges: &[u32]) -> (u32, u32) {
+        let kind = self.below(4);
+        match takes {
+            Takes::One if kind == 0 => (self.one_of(edges), 0),
+            Takes::One if kind == 1 => (self.near_one(), 0),
+            Takes::One => (self.operand(), 0),
+            _ if kind == 0 => (self.one_of(edges), self.one_of(edges)),
+            Takes::Two => self.pair(),
+            Takes::Power => self.power_or_end(),
+            Takes::FloatPower => self.float_power(),
         }
     }
 }
