@@ -11,6 +11,7 @@ mod reader;
 mod refusals;
 mod speed;
 mod steps;
+mod strips;
 mod sweep;
 mod vectors;
 mod words;
@@ -119,6 +120,9 @@ fn main() {
     }
     if wanted.only.is_empty() {
         report("refusals of the call by number", refusals::refusals());
+        for (label, count) in strips::strips() {
+            report(label, count);
+        }
     }
     println!("{}", sweep::line("in all", &total));
     exit(if total.differ == 0 { 0 } else { 1 });

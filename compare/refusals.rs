@@ -4,6 +4,12 @@
 use crate::kernels::{all, words, Takes};
 use crate::sweep::Count;
 
+/// The numbers that are tried, with an operation and without: each below 400, the powers of two, and some whose last digits are
+/// an operation's.
+pub fn numbers() -> impl Iterator<Item = u32> {
+    (0..0x400).chain((0..32).map(|k| 1 << k)).chain([0x106, 0x186, 0x1_0009, 0x8000_0006, 0x8000_0009, 0x8000_0086, u32::MAX])
+}
+
 pub fn refusals() -> Count {
     let known = all();
     let mut count = Count::default();
@@ -11,7 +17,7 @@ pub fn refusals() -> Count {
         count.judge(Some(refusal << 32), words(op, a, b), || format!("{op:02x} of {a:08x} {b:08x}"));
     };
     let samples = [0, 1, 0x3f80_0000, 0x7fc0_0000, 0x8000_0000, 0xffff_ffff];
-    for op in (0..0x400).chain((0..32).map(|k| 1 << k)).chain([0x106, 0x186, 0x8000_0006, 0x8000_0086, u32::MAX]) {
+    for op in numbers() {
         let kernel = known.iter().find(|k| k.number() == Some(op));
         for a in samples {
             for b in samples {
