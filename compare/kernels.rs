@@ -78,6 +78,8 @@ pub struct Kernel {
     /// Whether a NaN that the crate answers with was put together from bits, as `set_exponent` does, and made by no arithmetic.
     pub builds: fn(u32, u32) -> bool,
     pub theirs: fn(u32, u32) -> u32,
+    /// The crate's kernel in a loop over two lists, with the answers in a third.
+    pub loops: fn(&[u32], &[u32], &mut [u32]),
 }
 
 impl Kernel {
@@ -189,10 +191,26 @@ fn reaches_exp(a: u32, b: u32) -> Option<f32> {
     Some(n.0 * base.ln().0)
 }
 
+/// A loop as a user of the crate has it, compiled for each kernel by itself, so that the kernel can be inlined.
+fn over(theirs: impl Fn(u32, u32) -> u32, first: &[u32], second: &[u32], answers: &mut [u32]) {
+    for ((answer, a), b) in answers.iter_mut().zip(first).zip(second) {
+        *answer = theirs(*a, *b);
+    }
+}
+
 /// A kernel of ours and the crate's beside it; nothing is skipped, and no NaN of it is built from bits.
 macro_rules! kernel {
     ($call:expr, $name:literal, $takes:ident, $agree:expr, $theirs:expr) => {
-        Kernel { name: $name, call: $call, takes: Takes::$takes, agree: $agree, skips: |_, _| false, builds: |_, _| false, theirs: $theirs }
+        Kernel {
+            name: $name,
+            call: $call,
+            takes: Takes::$takes,
+            agree: $agree,
+            skips: |_, _| false,
+            builds: |_, _| false,
+            theirs: $theirs,
+            loops: |first, second, answers| over($theirs, first, second, answers),
+        }
     };
 }
 

@@ -100,10 +100,13 @@ fn main() {
     let chosen: Vec<&Kernel> = all.iter().filter(|k| wants(k)).collect();
 
     if wanted.speed {
+        let raw = |kernel: &Kernel| all.iter().find(|k| kernel.is_guarded() && !k.is_guarded() && k.name == kernel.name);
         println!("{}", speed::heading());
         for kernel in &chosen {
-            let raw = all.iter().find(|k| kernel.is_guarded() && !k.is_guarded() && k.name == kernel.name);
-            println!("{}", speed::line(kernel, raw));
+            println!("{}", speed::line(kernel, raw(kernel)));
+        }
+        for line in chosen.iter().filter_map(|kernel| speed::long(kernel, raw(kernel))) {
+            println!("{line}");
         }
         return;
     }

@@ -1,7 +1,8 @@
-//! How long a call takes, ours beside the crate's, over the same strip of words; a guarded call has the raw one between. It
-//! measures and judges nothing.
+//! How long a word takes, ours beside the crate's, over the same strip of words: by single calls, and by one call for the strip
+//! beside a loop of the crate's kernel. A guarded call has the raw one between. It measures and judges nothing.
 
 use crate::kernels::{Kernel, Takes};
+use crate::strips::strip;
 use crate::words::Random;
 use std::hint::black_box;
 use std::time::Instant;
@@ -10,25 +11,84 @@ const WORDS: usize = 4_096;
 const TURNS: usize = 64;
 const RUNS: usize = 31;
 
+/// The words of a long strip, which is a run by itself, and the kernels that are timed over one.
+const LONG: usize = 1_000_000;
+const OVER_LONG: [&str; 4] = ["sqrt", "atan2", "cos", "hypot"];
+
 /// What the run is, to stand above its lines.
 pub fn heading() -> String {
-    format!("strips of {WORDS} random words of size 2^-15 to 2^17, for a guarded call answered ones, {TURNS} turns to a run, medians of {RUNS} runs of each side in turn")
+    format!("strips of {WORDS} random words of size 2^-15 to 2^17, for a guarded call answered ones, {TURNS} turns to a run, medians of {RUNS} runs of each side in turn; a strip of {LONG} is one turn")
 }
 
-/// The time of a call over one run, in nanoseconds.
-fn run(strip: &[(u32, u32)], call: impl Fn(u32, u32) -> u64) -> f64 {
-    let start = Instant::now();
-    for _ in 0..TURNS {
-        for &(a, b) in black_box(strip) {
+/// What is timed: its name, whether it is the crate's, and a turn over all words.
+struct Side<'a> {
+    name: String,
+    theirs: bool,
+    turn: Box<dyn FnMut() + 'a>,
+}
+
+impl<'a> Side<'a> {
+    fn new(name: &str, theirs: bool, turn: impl FnMut() + 'a) -> Side<'a> {
+        Side { name: name.to_string(), theirs, turn: Box::new(turn) }
+    }
+}
+
+/// A turn that makes a call for each word.
+fn singly<'a>(words: &'a [(u32, u32)], call: impl Fn(u32, u32) -> u64 + 'a) -> impl FnMut() + 'a {
+    move || {
+        for &(a, b) in black_box(words) {
             black_box(call(a, b));
         }
     }
-    start.elapsed().as_nanos() as f64 / (TURNS * strip.len()) as f64
+}
+
+/// A turn that makes one call, with the first words, the second, and lists for answers and refusals.
+fn at_once<'a>(words: &[(u32, u32)], call: impl Fn(&[u32], &[u32], &mut [u32], &mut [u32]) + 'a) -> impl FnMut() + 'a {
+    let (first, second): (Vec<u32>, Vec<u32>) = words.iter().copied().unzip();
+    let (mut answers, mut refusals) = (vec![0; words.len()], vec![0; words.len()]);
+    move || {
+        call(black_box(&first), black_box(&second), &mut answers, &mut refusals);
+        black_box((&answers, &refusals));
+    }
+}
+
+/// A strip at once, where the kernel has a number: the crate's kernel in a loop, and the strip call for each form of ours.
+fn strips<'a>(kernel: &'a Kernel, forms: &[(&str, &'a Kernel)], words: &[(u32, u32)]) -> Vec<Side<'a>> {
+    let theirs = |_| Side::new("the crate in a loop", true, at_once(words, |first, second, answers, _| (kernel.loops)(first, second, answers)));
+    let ours = |&(name, form): &(&str, &Kernel)| {
+        let op = form.number()?;
+        let turn = at_once(words, move |first, second, answers, refusals| assert_eq!(strip(op, first, second, answers, refusals), 0));
+        Some(Side::new(&format!("{name} in a strip"), false, turn))
+    };
+    kernel.number().map(theirs).into_iter().chain(forms.iter().filter_map(ours)).collect()
 }
 
 pub fn median(mut times: Vec<f64>) -> f64 {
     times.sort_by(f64::total_cmp);
     times[times.len() / 2]
+}
+
+/// The time of each side: the median of a turn's nanoseconds, divided so that the unit is this one, and with ours how many times
+/// that is of the crate's side before it.
+fn timed(mut sides: Vec<Side>, turns: usize, divided: f64, unit: &str) -> String {
+    let mut times = vec![Vec::new(); sides.len()];
+    for _ in 0..RUNS {
+        for (side, times) in sides.iter_mut().zip(&mut times) {
+            let start = Instant::now();
+            (0..turns).for_each(|_| (side.turn)());
+            times.push(start.elapsed().as_nanos() as f64 / turns as f64);
+        }
+    }
+    let mut theirs = 0.0;
+    let told = sides.iter().zip(times).map(|(side, times)| {
+        let time = median(times);
+        if side.theirs {
+            theirs = time;
+        }
+        let ratio = if side.theirs { String::new() } else { format!(" ({:.2} times)", time / theirs) };
+        format!("{} {:.2} {unit}{ratio}", side.name, time / divided)
+    });
+    told.collect::<Vec<_>>().join(", ")
 }
 
 /// Words of size 2^-15 to 2^17; the second is 0 where it is not used.
@@ -40,34 +100,30 @@ pub fn usual(takes: Takes, random: &mut Random) -> (u32, u32) {
     }
 }
 
-/// Words that the kernel is compared on and does not refuse.
-fn strip(kernel: &Kernel) -> Vec<(u32, u32)> {
+/// So many words that the kernel is compared on and does not refuse.
+fn answered(kernel: &Kernel, length: usize) -> Vec<(u32, u32)> {
     let mut random = Random::new(7);
     let words = std::iter::repeat_with(|| usual(kernel.takes, &mut random));
-    words.filter(|&(a, b)| !(kernel.skips)(a, b) && kernel.refusal(a, b) == 0).take(WORDS).collect()
+    words.filter(|&(a, b)| !(kernel.skips)(a, b) && kernel.refusal(a, b) == 0).take(length).collect()
 }
 
-/// One line: the kernel, the crate's time for a call, ours, and how many times the crate's that is. A guarded kernel comes with
-/// its raw form, which then stands before it.
+/// One line: the kernel, the crate's time for a call, ours, and how many times the crate's that is; then the same for a word of a
+/// strip. A guarded kernel comes with its raw form, which then stands before it.
 pub fn line(kernel: &Kernel, raw: Option<&Kernel>) -> String {
-    let strip = strip(kernel);
-    let sides = match raw {
+    let words = answered(kernel, WORDS);
+    let forms = match raw {
         Some(raw) => vec![("raw", raw), ("guarded", kernel)],
         None => vec![("ours", kernel)],
     };
-    let mut theirs = Vec::new();
-    let mut ours = vec![Vec::new(); sides.len()];
-    for _ in 0..RUNS {
-        theirs.push(run(&strip, |a, b| (kernel.theirs)(a, b) as u64));
-        for ((_, side), times) in sides.iter().zip(&mut ours) {
-            times.push(run(&strip, |a, b| side.ours(a, b)));
-        }
-    }
-    let theirs = median(theirs);
-    let mut line = format!("{}: the crate {theirs:.2} ns", kernel.label());
-    for ((name, _), times) in sides.iter().zip(ours) {
-        let time = median(times);
-        line += &format!(", {name} {time:.2} ns ({:.2} times)", time / theirs);
-    }
-    line
+    let mut sides = vec![Side::new("the crate", true, singly(&words, |a, b| (kernel.theirs)(a, b) as u64))];
+    sides.extend(forms.iter().map(|&(name, form)| Side::new(name, false, singly(&words, |a, b| form.ours(a, b)))));
+    sides.extend(strips(kernel, &forms, &words));
+    format!("{}: {}", kernel.label(), timed(sides, TURNS, WORDS as f64, "ns"))
+}
+
+/// One line for a guarded kernel that is timed over a long strip, with its raw form: what the whole strip takes.
+pub fn long(kernel: &Kernel, raw: Option<&Kernel>) -> Option<String> {
+    let raw = raw.filter(|raw| OVER_LONG.contains(&raw.name))?;
+    let sides = strips(kernel, &[("raw", raw), ("guarded", kernel)], &answered(kernel, LONG));
+    Some(format!("{} over {LONG} words: {}", kernel.label(), timed(sides, 1, 1e6, "ms")))
 }
