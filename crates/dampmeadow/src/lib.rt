@@ -8,7 +8,7 @@ ghost use Rattle.guard.specs.Operations.{opAtan, opTrunc};
 ghost use Rattle.guard.specs.Refusals.{refusalOf};
 ghost use Rattle.frame.specs.Words.{answerWords, wordBeside, wordsOf};
 ghost use Rattle.frame.specs.Frame.{returned, left};
-ghost use Rattle.strip.specs.Strip.{wordAt, refusalAt, stripRefusal, stripLeaves};
+ghost use Rattle.strip.specs.Strip.{Strips};
 use float::F32;
 use frame::words;
 
@@ -32,9 +32,7 @@ pub extern "C" fn dampmeadow_strip(
     answers: &mut [u32],
     refusals: &mut [u32],
 ) -> u32
-    ensures number { λ r. ⌜ r ≡ stripRefusal op (now (first .entry)) (now (second .entry)) (now (answers .entry)) (now (refusals .entry)) ⌝ }
-    ensures words { λ r. ⌜ now (answers .exit) ≡ stripLeaves (wordAt op) r (now (first .entry)) (now (second .entry)) (now (answers .entry)) ⌝ }
-    ensures numbers { λ r. ⌜ now (refusals .exit) ≡ stripLeaves (refusalAt op) r (now (first .entry)) (now (second .entry)) (now (refusals .entry)) ⌝ }
+    ensures { λ r. ⌜ Strips op (now (first .entry)) (now (second .entry)) (now (answers .entry)) (now (refusals .entry)) r (now (answers .exit)) (now (refusals .exit)) ⌝ }
 {
     strip::run(op, first, second, answers, refusals)
 }

@@ -1,6 +1,7 @@
 -- An operation over a strip: two lists of words are read, and a list of words and a list of refusal numbers filled. Each place holds what
 -- the single call answers there. Definitions only.
 use Prim.Native.Nat.{ℕ, _/_, _%_, _^_}
+use mathlib.Core.Path.{_≡_}
 use mathlib.Core.Bool.{Bool, cond, _&&_}
 use mathlib.Core.List.{List, [], _∷_}
 use lib.Dec.{eqb}
@@ -29,7 +30,7 @@ wordAt op a b = placeWords op a b % 2 ^ 32
 unfoldable pub refusalAt : ℕ → ℕ → ℕ → ℕ
 refusalAt op a b = placeWords op a b / 2 ^ 32
 
--- ---- lists
+-- ---- whole lists
 
 -- place by place
 abbrev pub zipped : (ℕ → ℕ → ℕ) → List ℕ → List ℕ → List ℕ
@@ -37,13 +38,32 @@ zipped f [] ys = []
 zipped f (x ∷ xs) [] = []
 zipped f (x ∷ xs) (y ∷ ys) = f x y ∷ zipped f xs ys
 
--- ---- the strip call, by the four lists that are lent: the number that it returns, and what a list that it fills by f is left with
+-- every place of the last two holds what the single call answers
+pub record Fills (op : ℕ) (first second answers refusals : List ℕ) : Type 0 where
+  pub words : answers ≡ zipped (wordAt op) first second
+  pub numbers : refusals ≡ zipped (refusalAt op) first second
+
+-- the four have one length
+pub record Agree (first second answers refusals : List ℕ) : Type 0 where
+  pub seconds : length second ≡ length first
+  pub words : length answers ≡ length first
+  pub numbers : length refusals ≡ length first
 
 abbrev pub agree : List ℕ → List ℕ → List ℕ → List ℕ → Bool
 agree first second answers refusals = eqb (length second) (length first) && eqb (length answers) (length first) && eqb (length refusals) (length first)
 
+-- ---- the strip call, by the lists that are lent
+
+-- lengths are judged first, then the operation
 abbrev pub stripRefusal : ℕ → List ℕ → List ℕ → List ℕ → List ℕ → ℕ
 stripRefusal op first second answers refusals = cond (agree first second answers refusals) (cond (eqb (operandsIn op) 0) 6 0) 10
 
+-- what a list is left with that is filled by f: with a refusal n, what it was
 abbrev pub stripLeaves : (ℕ → ℕ → ℕ) → ℕ → List ℕ → List ℕ → List ℕ → List ℕ
-stripLeaves f number first second was = cond (eqb number 0) (zipped f first second) was
+stripLeaves f n first second was = cond (eqb n 0) (zipped f first second) was
+
+-- a strip over the first four lists returns n and leaves the last two
+pub record Strips (op : ℕ) (first second answers refusals : List ℕ) (n : ℕ) (answered refused : List ℕ) : Type 0 where
+  pub refusal : n ≡ stripRefusal op first second answers refusals
+  pub words : answered ≡ stripLeaves (wordAt op) n first second answers
+  pub numbers : refused ≡ stripLeaves (refusalAt op) n first second refusals

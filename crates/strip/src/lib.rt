@@ -1,9 +1,8 @@
 // An operation over a strip: whole lists of words, place by place what the single call answers. The
 // exported call of `dampmeadow` stands on it.
 ghost use mathlib.Core.Path.{_≡_};
-ghost use lib.ListN.{length};
 ghost use Rattle.frame.specs.Words.{kernelNumber};
-ghost use Rattle.strip.specs.Strip.{operandsIn, used, wordAt, refusalAt, zipped, stripRefusal, stripLeaves};
+ghost use Rattle.strip.specs.Strip.{used, Fills, Agree, Strips};
 use frame::words;
 
 // Runs an operation, guarded or raw, over two lists of words and fills a list with the answers and
@@ -12,9 +11,7 @@ use frame::words;
 // complement. Returns 0, or 10 where the four lists have not all one length, or else 6 where there
 // is no such operation; nothing is written then.
 pub fn run(op: u32, first: &[u32], second: &[u32], answers: &mut [u32], refusals: &mut [u32]) -> u32
-    ensures number { λ r. ⌜ r ≡ stripRefusal op (now (first .entry)) (now (second .entry)) (now (answers .entry)) (now (refusals .entry)) ⌝ }
-    ensures words { λ r. ⌜ now (answers .exit) ≡ stripLeaves (wordAt op) r (now (first .entry)) (now (second .entry)) (now (answers .entry)) ⌝ }
-    ensures numbers { λ r. ⌜ now (refusals .exit) ≡ stripLeaves (refusalAt op) r (now (first .entry)) (now (second .entry)) (now (refusals .entry)) ⌝ }
+    ensures { λ r. ⌜ Strips op (now (first .entry)) (now (second .entry)) (now (answers .entry)) (now (refusals .entry)) r (now (answers .exit)) (now (refusals .exit)) ⌝ }
 {
     let count = first.len();
     if second.len() != count {
@@ -36,9 +33,8 @@ pub fn run(op: u32, first: &[u32], second: &[u32], answers: &mut [u32], refusals
 // Fills every place of lists that have one length. The operation is found here, once: with its number
 // written out, a loop is compiled for its kernel alone.
 fn fill_all(op: u32, first: &[u32], second: &[u32], answers: &mut [u32], refusals: &mut [u32])
-    requires { ⌜ (length (now second) ≡ length (now first)) × (length (now answers) ≡ length (now first)) × (length (now refusals) ≡ length (now first)) ⌝ }
-    ensures words { λ r. ⌜ now (answers .exit) ≡ zipped (wordAt op) (now (first .entry)) (now (second .entry)) ⌝ }
-    ensures numbers { λ r. ⌜ now (refusals .exit) ≡ zipped (refusalAt op) (now (first .entry)) (now (second .entry)) ⌝ }
+    requires { ⌜ Agree (now first) (now second) (now answers) (now refusals) ⌝ }
+    ensures { λ r. ⌜ Fills op (now (first .entry)) (now (second .entry)) (now (answers .exit)) (now (refusals .exit)) ⌝ }
 {
     match words::kernel_number(op) {
         0x01 => fill_kernel(0x01, op, first, second, answers, refusals),
@@ -75,9 +71,8 @@ fn fill_kernel(
     answers: &mut [u32],
     refusals: &mut [u32],
 )
-    requires { ⌜ (kernelNumber op ≡ number) × (length (now second) ≡ length (now first)) × (length (now answers) ≡ length (now first)) × (length (now refusals) ≡ length (now first)) ⌝ }
-    ensures words { λ r. ⌜ now (answers .exit) ≡ zipped (wordAt op) (now (first .entry)) (now (second .entry)) ⌝ }
-    ensures numbers { λ r. ⌜ now (refusals .exit) ≡ zipped (refusalAt op) (now (first .entry)) (now (second .entry)) ⌝ }
+    requires { ⌜ (kernelNumber op ≡ number) × Agree (now first) (now second) (now answers) (now refusals) ⌝ }
+    ensures { λ r. ⌜ Fills op (now (first .entry)) (now (second .entry)) (now (answers .exit)) (now (refusals .exit)) ⌝ }
 {
     if op >= words::RAW {
         fill(words::RAW + number, first, second, answers, refusals);
@@ -88,9 +83,8 @@ fn fill_kernel(
 
 // The same by the single call, place after place.
 fn fill(op: u32, first: &[u32], second: &[u32], answers: &mut [u32], refusals: &mut [u32])
-    requires { ⌜ (length (now second) ≡ length (now first)) × (length (now answers) ≡ length (now first)) × (length (now refusals) ≡ length (now first)) ⌝ }
-    ensures words { λ r. ⌜ now (answers .exit) ≡ zipped (wordAt op) (now (first .entry)) (now (second .entry)) ⌝ }
-    ensures numbers { λ r. ⌜ now (refusals .exit) ≡ zipped (refusalAt op) (now (first .entry)) (now (second .entry)) ⌝ }
+    requires { ⌜ Agree (now first) (now second) (now answers) (now refusals) ⌝ }
+    ensures { λ r. ⌜ Fills op (now (first .entry)) (now (second .entry)) (now (answers .exit)) (now (refusals .exit)) ⌝ }
 {
     let operands = raw::operands(words::kernel_number(op));
     let mut i: usize = 0;

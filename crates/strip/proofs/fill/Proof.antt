@@ -39,16 +39,16 @@ module _ (c : tie.At-loop Inv-loop μ-loop) where
 
   module _ (f : ℕ → ℕ → ℕ) (was list : List ℕ) (o : length was ≡ length first) (w : Filled f first second i was list) where
     as-long : length list ≡ length first
-    as-long = filled-length f first second was list i (start .pre .0) o w (c .loop .inv .0)
+    as-long = filled-length f first second was list i (start .pre .seconds) o w (c .loop .inv .0)
 
     has-place : i < length first → i < length list
     has-place h = rw as-long h
 
     next : (b : ℕ) → i < length first → b ≡ f (getD first i 0) (getD second i 0) → Filled f first second (i + 1) was (set list i b)
-    next = one-more f first second was list i (start .pre .0) o w
+    next = one-more f first second was list i (start .pre .seconds) o w
 
     all : length first ≤ i → list ≡ zipped f first second
-    all h = all-filled f first second was list i (start .pre .0) o w (omega (arith, h, c .loop .inv .0))
+    all h = all-filled f first second was list i (start .pre .seconds) o w (omega (arith, h, c .loop .inv .0))
 
 -- ---- the single call
 
@@ -69,8 +69,8 @@ loop-again c =
     let t = body c .loop-test .taken in
     let op = start l .args .op in (
       omega (arith, t),
-      next l (wordAt op) _ _ (start l .pre .1) (l .loop .inv .1) _ t (ap (λ (x : ℕ). x % 2 ^ 32) (place c)),
-      next l (refusalAt op) _ _ (start l .pre .2) (l .loop .inv .2) _ t (ap (λ (x : ℕ). x / 2 ^ 32) (place c)),
+      next l (wordAt op) _ _ (start l .pre .words) (l .loop .inv .1) _ t (ap (λ (x : ℕ). x % 2 ^ 32) (place c)),
+      next l (refusalAt op) _ _ (start l .pre .numbers) (l .loop .inv .2) _ t (ap (λ (x : ℕ). x / 2 ^ 32) (place c)),
     )
 
 pub fill-spec : {M : Type 1} → statement M
@@ -84,23 +84,22 @@ fill-spec =
     (λ c. search needs)
     (λ c. c .before .loop-test .taken)
     (λ c. search needs)
-    (λ c. let t = c .before .before in rw (start (t .before) .pre .0) (t .loop-test .taken))
+    (λ c. let t = c .before .before in rw (start (t .before) .pre .seconds) (t .loop-test .taken))
     (λ c κs. search needs)
     (λ c κs. search needs)
     (λ c. search needs)
     (λ c. search needs)
-    (λ c. let l = body c .before in has-place l (wordAt (start l .args .op)) _ _ (start l .pre .1) (l .loop .inv .1) (body c .loop-test .taken))
+    (λ c. let l = body c .before in has-place l (wordAt (start l .args .op)) _ _ (start l .pre .words) (l .loop .inv .1) (body c .loop-test .taken))
     (λ c. search needs)
     (λ c. search needs)
-    (λ c. let l = body c .before in has-place l (refusalAt (start l .args .op)) _ _ (start l .pre .2) (l .loop .inv .2) (body c .loop-test .taken))
+    (λ c. let l = body c .before in has-place l (refusalAt (start l .args .op)) _ _ (start l .pre .numbers) (l .loop .inv .2) (body c .loop-test .taken))
     (λ c. search needs)
     (λ c. omega (arith, body c .loop-test .taken))
     loop-again
-    (λ c. let l = c .before in as-long l (wordAt (start l .args .op)) _ _ (start l .pre .1) (l .loop .inv .1) ∙ sym (start l .pre .1))
-    (λ c. let l = c .before in as-long l (refusalAt (start l .args .op)) _ _ (start l .pre .2) (l .loop .inv .2) ∙ sym (start l .pre .2))
+    (λ c. let l = c .before in as-long l (wordAt (start l .args .op)) _ _ (start l .pre .words) (l .loop .inv .1) ∙ sym (start l .pre .words))
+    (λ c. let l = c .before in as-long l (refusalAt (start l .args .op)) _ _ (start l .pre .numbers) (l .loop .inv .2) ∙ sym (start l .pre .numbers))
     (λ c.
-    let l = c .before in (
-      all l (wordAt (start l .args .op)) _ _ (start l .pre .1) (l .loop .inv .1) (c .loop-test .left),
-      all l (refusalAt (start l .args .op)) _ _ (start l .pre .2) (l .loop .inv .2) (c .loop-test .left),
-    )) in
+    let l = c .before in
+    let op = start l .args .op in
+    record { words = all l (wordAt op) _ _ (start l .pre .words) (l .loop .inv .1) (c .loop-test .left); numbers = all l (refusalAt op) _ _ (start l .pre .numbers) (l .loop .inv .2) (c .loop-test .left) }) in
     tie.close met

@@ -28,19 +28,19 @@ module _ (c : tie.After-operands) where
 pub run-spec : {M : Type 1} → statement M
 run-spec =
     let met = tie.spec
-    (λ c. (rw (ne-eqb _ _ (c .if1 .taken)), (refl, refl)))
-    (λ c. (rw (eq-eqb _ _ (c .before .if1 .left), ne-eqb _ _ (c .if2 .taken)), (refl, refl)))
-    (λ c. (rw (eq-eqb _ _ (c .before .before .if1 .left), eq-eqb _ _ (c .before .if2 .left), ne-eqb _ _ (c .if3 .taken)), (refl, refl)))
+    (λ c. record { refusal = rw (ne-eqb _ _ (c .if1 .taken)); words = refl; numbers = refl })
+    (λ c. record { refusal = rw (eq-eqb _ _ (c .before .if1 .left), ne-eqb _ _ (c .if2 .taken)); words = refl; numbers = refl })
+    (λ c. record { refusal = rw (eq-eqb _ _ (c .before .before .if1 .left), eq-eqb _ _ (c .before .if2 .left), ne-eqb _ _ (c .if3 .taken)); words = refl; numbers = refl })
     (λ c κs. search needs)
     (λ c κs. search needs)
-    (λ c. (rw (agreed (c .before), eq-eqb _ 0 (sym (reads (c .before)) ∙ c .if4 .taken)), (refl, refl)))
+    (λ c. record { refusal = rw (agreed (c .before), eq-eqb _ 0 (sym (reads (c .before)) ∙ c .if4 .taken)); words = refl; numbers = refl })
     (λ c κs.
     let o = c .before .before .before in
-    (e3 o .before .before .if1 .left, e3 o .before .if2 .left, e3 o .if3 .left))
+    record { seconds = e3 o .before .before .if1 .left; words = e3 o .before .if2 .left; numbers = e3 o .if3 .left })
     (λ c. search needs)
     (λ c. search needs)
     (λ c.
     let f = c .before .before .before .before in
     let e4 = f .before .before .before in
-    (rw (agreed (e4 .before), ne-eqb _ 0 (λ e. e4 .if4 .left (reads (e4 .before) ∙ e))), f .fill-all .ensures)) in
+    record { refusal = rw (agreed (e4 .before), ne-eqb _ 0 (λ e. e4 .if4 .left (reads (e4 .before) ∙ e))); words = f .fill-all .ensures .words; numbers = f .fill-all .ensures .numbers }) in
     tie.close met
