@@ -1,2 +1,6 @@
 -- What belongs to no one function.
-pub mod Places
+mod Places
+pub mod Answers
+pub mod Runs
+pub mod Cutting
+pub mod OneAnswer

@@ -21,6 +21,14 @@ module _ (f : ℕ → ℕ → ℕ) where
   zipped-at (x ∷ xs) (y ∷ ys) zero e h = refl
   zipped-at (x ∷ xs) (y ∷ ys) (suc i) e h = zipped-at xs ys i (suc-inj e) (le-of-suc-le-suc h)
 
+  -- the second words do not matter where f does not read them
+  pub zipped-alike : ((x y z : ℕ) → f x y ≡ f x z) → (xs ys zs : List ℕ) → length ys ≡ length zs → zipped f xs ys ≡ zipped f xs zs
+  zipped-alike h [] ys zs e = refl
+  zipped-alike h (x ∷ xs) [] [] e = refl
+  zipped-alike h (x ∷ xs) [] (z ∷ zs) e = absurd (let b : ⊥ = omega (arith, e) in b)
+  zipped-alike h (x ∷ xs) (y ∷ ys) [] e = absurd (let b : ⊥ = omega (arith, e) in b)
+  zipped-alike h (x ∷ xs) (y ∷ ys) (z ∷ zs) e = rw (h x y z, zipped-alike h xs ys zs (suc-inj e))
+
   -- a list that was os has its first i places filled
   abbrev pub Filled : List ℕ → List ℕ → ℕ → List ℕ → List ℕ → Type 0
   Filled xs ys i os zs = zs ≡ paste os 0 (zipped f xs ys) i
