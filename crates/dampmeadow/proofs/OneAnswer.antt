@@ -11,12 +11,14 @@ use Rattle.guard.specs.Refusals.{refusalOf}
 use Rattle.frame.specs.Words.{wordBeside}
 use Rattle.frame.specs.Frame.{returned, left}
 use Rattle.frame.proofs.OneAnswer.{seen}
+use Rattle.strip.proofs.OneAnswer as strip
 use Rattle.dampmeadow.proofs.dampmeadow_answer.Reads as answer-reads
 use Rattle.format.proofs.Pinned.{OneAnswer, pinned}
 use Rattle.dampmeadow.proofs.dampmeadow_words.Reads as words
 use Rattle.dampmeadow.proofs.dampmeadow_atan_norm.Reads as atan-norm
 use Rattle.dampmeadow.proofs.dampmeadow_atan_norm_guarded.Reads as atan-norm-guarded
 use Rattle.dampmeadow.proofs.dampmeadow_parts.Reads as parts-reads
+use Rattle.dampmeadow.proofs.dampmeadow_strip.Reads as strip-reads
 
 pub dampmeadow-words : (κs : Lfts 0) → OneAnswer (words.Post κs) (λ r x. r)
 dampmeadow-words κs = pinned _ (λ a r x p. p)
@@ -47,3 +49,6 @@ partsOf a = let n = refusalOf opTrunc a 0 in seenParts n (wordBeside n (truncWor
 pub dampmeadow-parts : (κs : Lfts 2) → OneAnswer (parts-reads.Post κs) (λ r x. seenParts r (now (x .1 .0)) (now (x .1 .1 .0)))
 unfolding partsOf
 dampmeadow-parts κs = pinned (λ a. partsOf (a .0)) (λ a r x p. rw (p .0, p .1 .0, p .1 .1))
+
+pub dampmeadow-strip : (κs : Lfts 4) → OneAnswer (strip-reads.Post κs) (λ r x. strip.seen r (now (x .1 .1 .1 .0)) (now (x .1 .1 .1 .1 .0)))
+dampmeadow-strip κs = pinned (λ a. strip.shows (a .0) (now (a .1 .0)) (now (a .1 .1 .0)) (now (a .1 .1 .1 .0)) (now (a .1 .1 .1 .1 .0))) (λ a r x p. strip.strips p)

@@ -4,3 +4,4 @@ pub mod Answers
 pub mod Runs
 pub mod Cutting
 pub mod OneAnswer
+pub mod Examples
