@@ -73,6 +73,10 @@ pub examples : map (λ c. shows (c .op) (c .first) (c .second) (c .answers) (c .
 unfolding refusalBehind judged wordAt refusalAt works powiWord atanNormWord atanWord quarters atan2Word hypotWord add sub mul div lt le eq nanBits ofBits toBits ofInt toSigned
 examples = refl
 
+-- lists that do not agree are told before an operation that is not there
+pub lengths-first : stripRefusal 0x16 (alone 1) [] (alone 7) (alone 8) ≡ 10
+lengths-first = refl
+
 -- a refused place is passed, and not the end: one after it is answered
 pub goes-on : stripLeaves (wordAt 0x09) 0 (two 0xbf80_0000 0x4080_0000) (two 0 0) (two 7 7) ≡ two 0 0x4000_0000
 unfolding refusalBehind judged wordAt lt le eq nanBits ofBits toBits
