@@ -30,10 +30,11 @@ is-agree a = rw (eq-eqb _ _ (a .seconds), eq-eqb _ _ (a .words), eq-eqb _ _ (a .
 
 -- ---- a place
 
-word-lt : (op a b : ℕ) → wordAt op a b < 2 ^ 32
+pub word-lt : (op a b : ℕ) → wordAt op a b < 2 ^ 32
 unfolding wordAt
 word-lt op a b = mod-lt (placeWords op a b) (let z : 0 < 2 ^ 32 = omega arith in z)
 
+-- put together they are the single call's answer
 pub halves : (op a b : ℕ) → packed (refusalAt op a b) (wordAt op a b) ≡ placeWords op a b
 unfolding wordAt refusalAt
 halves op a b = div-add-mod' (placeWords op a b) (2 ^ 32)

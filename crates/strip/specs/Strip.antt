@@ -43,7 +43,7 @@ pub record Fills (op : ℕ) (first second answers refusals : List ℕ) : Type 0 
   pub words : answers ≡ zipped (wordAt op) first second
   pub numbers : refusals ≡ zipped (refusalAt op) first second
 
--- the four have one length
+-- the four have one length, as a fact and as a test
 pub record Agree (first second answers refusals : List ℕ) : Type 0 where
   pub seconds : length second ≡ length first
   pub words : length answers ≡ length first

@@ -31,7 +31,7 @@ pub fn run(op: u32, first: &[u32], second: &[u32], answers: &mut [u32], refusals
 }
 
 // Fills every place of lists that have one length. The operation is found here, once: with its number
-// written out, a loop is compiled for its kernel alone.
+// written out, a loop is compiled for its kernel alone. One without an arm is found at each place.
 fn fill_all(op: u32, first: &[u32], second: &[u32], answers: &mut [u32], refusals: &mut [u32])
     requires { ⌜ Agree (now first) (now second) (now answers) (now refusals) ⌝ }
     ensures { λ r. ⌜ Fills op (now (first .entry)) (now (second .entry)) (now (answers .exit)) (now (refusals .exit)) ⌝ }
