@@ -10,6 +10,17 @@ extern "C" {
     fn dampmeadow_atan_norm(a: u32) -> u32;
     fn dampmeadow_atan_norm_guarded(a: u32) -> u64;
     fn dampmeadow_parts(a: u32, whole: &mut u32, rest: &mut u32) -> u32;
+    fn dampmeadow_strip(
+        op: u32,
+        first: *const u32,
+        first_count: usize,
+        second: *const u32,
+        second_count: usize,
+        answers: *mut u32,
+        answers_count: usize,
+        refusals: *mut u32,
+        refusals_count: usize,
+    ) -> u32;
 }
 
 #[link(name = "probe", kind = "static")]
@@ -30,6 +41,20 @@ extern "C" {
 /// The call by number, with its refusal still in the high half.
 pub fn words(op: u32, a: u32, b: u32) -> u64 {
     unsafe { dampmeadow_words(op, a, b) }
+}
+
+/// The strip call, with the refusal of the whole strip.
+pub fn strip(op: u32, first: &[u32], second: &[u32], answers: &mut [u32], refusals: &mut [u32]) -> u32 {
+    let [a, b, c, d] = [first.len(), second.len(), answers.len(), refusals.len()];
+    unsafe { dampmeadow_strip(op, first.as_ptr(), a, second.as_ptr(), b, answers.as_mut_ptr(), c, refusals.as_mut_ptr(), d) }
+}
+
+/// The places that one strip call gives for these words, each with its refusal in the high half.
+pub fn places(op: u32, words: &[(u32, u32)]) -> Vec<u64> {
+    let (first, second): (Vec<u32>, Vec<u32>) = words.iter().copied().unzip();
+    let (mut answers, mut refusals) = (vec![!0; words.len()], vec![!0; words.len()]);
+    strip(op, &first, &second, &mut answers, &mut refusals);
+    refusals.iter().zip(&answers).map(|(refusal, word)| (*refusal as u64) << 32 | *word as u64).collect()
 }
 
 /// trunc and fract together: the refusal with the whole part, and the refusal with the rest. A word that is not set shows.

@@ -1,8 +1,7 @@
 //! How long a word takes, ours beside the crate's, over the same strip of words: by single calls, and by one call for the strip
 //! beside a loop of the crate's kernel. A guarded call has the raw one between. It measures and judges nothing.
 
-use crate::kernels::{Kernel, Takes};
-use crate::strips::strip;
+use crate::kernels::{strip, Kernel, Takes};
 use crate::words::Random;
 use std::hint::black_box;
 use std::time::Instant;

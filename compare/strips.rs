@@ -2,32 +2,11 @@
 //! whole.
 
 use crate::edges;
-use crate::kernels::{all, Kernel, Takes};
+use crate::kernels::{all, strip, Kernel, Takes};
 use crate::refusals::numbers;
 use crate::steps;
 use crate::sweep::Count;
 use crate::words::{self, Random};
-
-#[link(name = "dampmeadow", kind = "static")]
-extern "C" {
-    fn dampmeadow_strip(
-        op: u32,
-        first: *const u32,
-        first_count: usize,
-        second: *const u32,
-        second_count: usize,
-        answers: *mut u32,
-        answers_count: usize,
-        refusals: *mut u32,
-        refusals_count: usize,
-    ) -> u32;
-}
-
-/// The strip call, with the refusal of the whole strip.
-pub fn strip(op: u32, first: &[u32], second: &[u32], answers: &mut [u32], refusals: &mut [u32]) -> u32 {
-    let [a, b, c, d] = [first.len(), second.len(), answers.len(), refusals.len()];
-    unsafe { dampmeadow_strip(op, first.as_ptr(), a, second.as_ptr(), b, answers.as_mut_ptr(), c, refusals.as_mut_ptr(), d) }
-}
 
 /// The lists that a strip call is lent, in order.
 const NAMES: [&str; 4] = ["first", "second", "answers", "refusals"];

@@ -1,6 +1,6 @@
 //! Going over the words, on every core, with a line of progress.
 
-use crate::kernels::{Kernel, Takes, NAN};
+use crate::kernels::{places, Kernel, Takes, NAN};
 use crate::words::{edges, Random};
 use std::io::{IsTerminal, Write};
 use std::sync::atomic::{AtomicU64, Ordering};
@@ -105,36 +105,54 @@ impl Plan {
         }
     }
 
+    fn at(&self, i: u64, random: &mut Random) -> (u32, u32) {
+        let n = self.edges.len() as u64;
+        match self.takes {
+            Takes::One if self.every => (i as u32, 0),
+            Takes::One if i < n => (self.edges[i as usize], 0),
+            Takes::One if i < n + self.strides => ((i - n) as u32 * STRIDE, 0),
+            Takes::One => (random.word(), 0),
+            _ if i < n * n => (self.edges[(i / n) as usize], self.edges[(i % n) as usize]),
+            Takes::Two => random.pair(),
+            Takes::Power => random.power_or_end(),
+            Takes::FloatPower => random.float_power(),
+        }
+    }
+
     /// Tries the numbers from `from` to `to`.
     fn run(&self, kernel: &Kernel, from: u64, to: u64) -> Count {
-        let n = self.edges.len() as u64;
+        const STRIP: usize = 4_096;
         let mut random = Random::new(from + 1);
         let mut count = Count::default();
-        for i in from..to {
-            let (a, b) = match self.takes {
-                Takes::One if self.every => (i as u32, 0),
-                Takes::One if i < n => (self.edges[i as usize], 0),
-                Takes::One if i < n + self.strides => ((i - n) as u32 * STRIDE, 0),
-                Takes::One => (random.word(), 0),
-                _ if i < n * n => (self.edges[(i / n) as usize], self.edges[(i % n) as usize]),
-                Takes::Two => random.pair(),
-                Takes::Power => random.power_or_end(),
-                Takes::FloatPower => random.float_power(),
-            };
-            if (kernel.skips)(a, b) {
-                count.skipped += 1;
-                continue;
-            }
-            let (expected, ours) = (kernel.expected(a, b), kernel.ours(a, b));
-            count.judge(expected, ours, || kernel.asked(a, b));
-            if expected == Some(NAN as u64) {
-                if let Some(theirs) = kernel.built(a, b) {
-                    count.built += 1;
-                    count.first_built.get_or_insert_with(|| (Trial { asked: kernel.asked(a, b), expected, ours }, theirs));
-                }
-            }
+        let mut numbers = from..to;
+        while !numbers.is_empty() {
+            let words: Vec<(u32, u32)> = numbers.by_ref().take(STRIP).map(|i| self.at(i, &mut random)).collect();
+            try_words(kernel, &words, &mut count);
         }
         count
+    }
+}
+
+/// Tries each pair of words by itself and, where the kernel has a number, at its place in a strip of them all.
+fn try_words(kernel: &Kernel, words: &[(u32, u32)], count: &mut Count) {
+    let places = kernel.number().map(|op| places(op, words));
+    for (i, &(a, b)) in words.iter().enumerate() {
+        if (kernel.skips)(a, b) {
+            count.skipped += 1;
+            continue;
+        }
+        let (expected, alone) = (kernel.expected(a, b), kernel.ours(a, b));
+        let (ours, how) = match &places {
+            Some(places) if expected == Some(alone) => (places[i], " in a strip"),
+            _ => (alone, ""),
+        };
+        count.judge(expected, ours, || kernel.asked(a, b) + how);
+        if expected == Some(NAN as u64) {
+            if let Some(theirs) = kernel.built(a, b) {
+                count.built += 1;
+                count.first_built.get_or_insert_with(|| (Trial { asked: kernel.asked(a, b), expected, ours }, theirs));
+            }
+        }
     }
 }
 
@@ -155,7 +173,9 @@ pub fn sweep(kernel: &Kernel, every: bool) -> Count {
                     break;
                 }
                 let to = len.min(from + BLOCK);
-                found.lock().unwrap().push((from, plan.run(kernel, from, to)));
+                // before the lock is taken, which the other cores would wait for
+                let count = plan.run(kernel, from, to);
+                found.lock().unwrap().push((from, count));
                 done.fetch_add(to - from, Ordering::Relaxed);
             });
         }
