@@ -116,18 +116,19 @@ uint64_t dampmeadow_words(uint32_t op, uint32_t a, uint32_t b);
 /* Calls an operation for each place of a strip: lists of words in, a list of words and a list of refusals out.
  *
  * In:   op, an operation, with DAMPMEADOW_RAW added for its raw form.
- *       first and second, the operands' words. An operation of one operand does not look at the second list: lend the first
- *       twice. powi's second list holds its powers: (uint32_t)-3 for -3. Floats are made words by dampmeadow_bits or memcpy,
- *       since neither C nor C++ lets a list of them be lent by a cast.
- *       answers and refusals, where the answers' words and the refusals are to be put. They overlap neither each other nor
- *       first or second.
- *       The count after each list is how many places it has. The four counts are the same, and may be any number, 0 too. No
- *       pointer is NULL, not even an empty list's; what an empty std::vector gives may be.
- * Back: 0, and each place holds what dampmeadow_words gives for it: in refusals the refusal, 0 where there is none, and in
- *       answers the word, 0 with a refusal. A refused place changes no other. 7 is at no place, since a second word that is
- *       not used is taken for 0. A strip that is cut anywhere gives the same lists, piece by piece.
- *       Or it is refused: with 10 where the counts differ, and else with 6 where no operation has this number. Then nothing is
- *       written.
+ *       first and second, the operands' words. What the second list holds does not matter to an operation of one operand, but
+ *       it is lent like the others: lend the first twice. powi's second list holds its powers: (uint32_t)-3 for -3. Floats are
+ *       made words by dampmeadow_bits or memcpy, since neither C nor C++ lets a list of them be lent by a cast.
+ *       answers and refusals, where the answers' words and the refusals are to be put. They share no memory with each other or
+ *       with first and second: a strip cannot be run in place.
+ *       After each list the number of its places, any number, 0 too. No pointer is NULL: for an empty list give the address
+ *       of any word, since what an empty std::vector gives may be NULL.
+ * Back: 0, and each place holds what dampmeadow_words gives for its first word and its second, or 0 for a second that is not
+ *       used: in refusals the refusal, 0 where there is none, and in answers the word, 0 with a refusal. A returned 0 says
+ *       nothing of the places; look at refusals. A refused place changes no other, and 7 is at none. A strip that is cut
+ *       anywhere gives the same lists, piece by piece.
+ *       Or the whole strip is refused, and nothing is written: with 10 where the lists have not all one number of places, and
+ *       else with 6 where no operation has this number.
  *
  *   const uint32_t first[3] = {0x40800000, 0xbf800000, 0x00000000};
  *   uint32_t answers[3], refusals[3];

@@ -128,6 +128,9 @@ static int gather(int x, int y, int speck)
 
 /* ---- what a person looks at ---- */
 
+/* A refusal, or for one that is newer than this program the number after those it knows. */
+static int kind(uint32_t refusal) { return refusal < REFUSALS ? (int)refusal : REFUSALS; }
+
 static int write_picture(const char *folder, const char *name, int colour)
 {
     char path[4096];
@@ -151,26 +154,26 @@ static int write_picture(const char *folder, const char *name, int colour)
 
 int main(int argc, char **argv)
 {
-    static const char *const why[REFUSALS] = {
+    static const char *const why[REFUSALS + 1] = {
         "answered", "a difference is not finite", "the first operand is 0", "the first operand is negative",
         "outside what the operation takes: both differences are 0", "the power is out of range", "no such operation",
-        "malformed", "too little space", "not in use", "lists of different lengths",
+        "malformed", "too little space", "not in use", "lists of different lengths", "not known to this program",
     };
-    int count[REFUSALS] = {0}, edges = 0, pixels = 0, found = 0, hit[DUST] = {0}, astray = 0;
+    int count[REFUSALS + 1] = {0}, edges = 0, pixels = 0, found = 0, hit[DUST] = {0}, astray = 0;
     if (argc != 2) { fprintf(stderr, "specks: wants the folder for its pictures\n"); return 2; }
 
     make_picture();
     for (int y = 1; y < HIGH - 1; y++) {
         uint32_t whole = score(y);
-        if (whole != 0) { fprintf(stderr, "specks: row %d is refused with %d: %s\n", y, (int)whole, why[whole]); return 2; }
-        for (int x = 1; x < WIDE - 1; x++) count[refused[y][x]]++, edges += strong(x, y);
+        if (whole != 0) { fprintf(stderr, "specks: row %d is refused with %d: %s\n", y, (int)whole, why[kind(whole)]); return 2; }
+        for (int x = 1; x < WIDE - 1; x++) count[kind(refused[y][x])]++, edges += strong(x, y);
     }
     for (int y = 1; y < HIGH - 1; y++) for (int x = 1; x < WIDE - 1; x++)
         if (strong(x, y) && all_round(x, y)) marked[y][x] = -1, pixels++;
 
     printf("%d by %d pixels, of which %d have neighbours on all sides\n", WIDE, HIGH, (WIDE - 2) * (HIGH - 2));
     printf("%6d  answered\n", count[0]);
-    for (int i = 1; i < REFUSALS; i++) if (count[i]) printf("%6d  refused with %d: %s\n", count[i], i, why[i]);
+    for (int i = 1; i <= REFUSALS; i++) if (count[i]) printf("%6d  refused with %d: %s\n", count[i], i, why[i]);
     printf("%6d  strong edges, above %g grey levels a pixel\n", edges, STRONG);
     printf("%6d  of these in specks: edges near them point all four ways\n", pixels);
     for (int y = 0; y < HIGH; y++) for (int x = 0; x < WIDE; x++) if (marked[y][x] == -1) {

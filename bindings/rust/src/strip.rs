@@ -4,12 +4,14 @@ use crate::{exported, judged, Refusal};
 use core::slice;
 
 /// Calls an operation, guarded or raw, for each place of a strip. What [`call`](crate::call) gives for `first[i]` and
-/// `second[i]` is put into `answers[i]` and `refusals[i]`: the word, 0 with a refusal, and the refusal's number, 0 where there
-/// is an answer. A refused place changes no other. An operation of one operand does not look at `second`: lend `first` twice.
-/// [`bits`], [`bits_mut`] and [`powers`] lend floats, and powi's powers, with no copying.
+/// `second[i]`, or 0 for the second where the operation has one operand, is put into `answers[i]` and `refusals[i]`: the word, 0
+/// with a refusal, and the refusal's number, 0 where there is an answer. A refused place changes no other. `second` may hold
+/// anything for an operation of one operand: lend `first` twice. [`bits`], [`bits_mut`] and [`powers`] lend floats, and powi's
+/// powers, with no copying.
 ///
 /// All four lists have one length, and that may be 0. Where they have not, the strip is refused with [`Refusal::Lengths`], and
-/// else, where no operation has this number, with [`Refusal::NoSuchOperation`]. Then nothing is written.
+/// else, where no operation has this number, with [`Refusal::NoSuchOperation`]. Then nothing is written. `Ok` says nothing of
+/// the places, and each may be refused by itself.
 ///
 /// ```
 /// use dampmeadow::{bits, bits_mut, strip, Operation, Refusal};
@@ -18,8 +20,10 @@ use core::slice;
 /// let hypot = Operation::Hypot.number();
 /// assert_eq!(strip(hypot, bits(&across), bits(&down), bits_mut(&mut strengths), &mut refusals), Ok(()));
 /// assert_eq!((strengths, refusals), ([5.125, 0.0, 0.0], [0, 4, 1]));
-/// assert_eq!(Refusal::from_number(refusals[0]), None);
-/// assert_eq!(Refusal::from_number(refusals[1]), Some(Refusal::Outside));
+///
+/// // a place as a result
+/// let place = |i: usize| Refusal::from_number(refusals[i]).map_or(Ok(strengths[i]), Err);
+/// assert_eq!((place(0), place(1)), (Ok(5.125), Err(Refusal::Outside)));
 ///
 /// assert_eq!(strip(hypot, bits(&across), bits(&down[1..]), bits_mut(&mut strengths), &mut refusals), Err(Refusal::Lengths));
 /// assert_eq!(strip(0x16, &[], &[], &mut [], &mut []), Err(Refusal::NoSuchOperation));

@@ -1,15 +1,18 @@
 -- What a place of a strip holds, by its operation: of a guarded one its refusal and the zero word, or no refusal and the raw word; of a
--- raw one the raw word. Neither 6 nor 7 stands at a place. Assumes nothing.
-use Prim.Native.Nat.{ℕ, _-_, _*_, _+_, _/_, _%_, _^_, _≤_, _<_}
+-- raw one no refusal and the raw word. So neither 6 nor 7 stands at a place. Assumes nothing.
+use Prim.Native.Nat.{ℕ, zero, suc, _-_, _/_, _%_, _^_, _≤_, _<_}
 use native.Mathlib.Nat.{zero-add, div-eq-of-lt, mod-eq-of-lt}
 use native.Mathlib.Omega.{arith}
-use mathlib.Core.Path.{_≡_, refl, sym, ap, _∙_}
+use mathlib.Core.Path.{_≡_, refl, sym, ap, subst, _∙_}
 use mathlib.Core.Logic.{_⊎_, inl, inr}
 use mathlib.Core.Bool.{Bool, true, false, cond}
-use borrow.Author.Tests.{le-leb, lt-leb, ne-eqb}
-use lib.Dec.{leb}
-use Rattle.raw.specs.Raw.{Kernel, none, one, two, kernelOf, operandsOf, rawOf}
-use Rattle.guard.specs.Refusals.{refusalOf}
+use mathlib.Core.List.{List, [], _∷_}
+use borrow.Author.Tests.{le-leb, lt-leb, ne-eqb, leb-true, ltb-true, ltb-false, eqb-true, eqb-false}
+use lib.Dec.{leb, ltb, eqb}
+use lib.ListN.{List·getD-eq-default}
+use Rattle.raw.specs.Raw.{Kernel, none, one, two, kernels, kernelOf, operandsOf, rawOf}
+use Rattle.guard.specs.Gates.{gateOf}
+use Rattle.guard.specs.Refusals.{Refusal, refusals, holds, firstOf, refusalBehind, refusalOf}
 use Rattle.guard.specs.Guarded.{valueOf}
 use Rattle.guard.proofs.Laws.{second-word-is-ignored}
 use Rattle.frame.specs.Words.{packed, answerWords, kernelNumber, operationWords, shapeOf, framed}
@@ -29,6 +32,32 @@ one-or-two : (k : Kernel) → (operandsOf k ≡ 0 → ⊥) → (operandsOf k ≡
 one-or-two none h = absurd (h refl)
 one-or-two (one f) h = inl refl
 one-or-two (two f) h = inr refl
+
+-- ---- the refusals of the list
+
+abbrev Neither : ℕ → Type 0
+Neither n = (n ≡ 6 → ⊥) × (n ≡ 7 → ⊥)
+
+low : (n : ℕ) → n < 6 → Neither n
+low n h = ((λ e. omega arith), (λ e. omega arith))
+
+abbrev Every : List Refusal → Type 0
+Every [] = Unit
+Every (r ∷ rs) = Neither (r .number) × Every rs
+
+first-of : (op a b : ℕ) (rs : List Refusal) → Every rs → Neither (firstOf rs op a b)
+first-of op a b [] h = low 0 (omega arith)
+first-of op a b (r ∷ rs) h = go (holds r op a b) (first-of op a b rs (h .1))
+  where
+    go : (t : Bool) → Neither (firstOf rs op a b) → Neither (cond t (r .number) (firstOf rs op a b))
+    go true k = h .0
+    go false k = k
+
+listed : (op a b : ℕ) → Neither (refusalOf op a b)
+unfolding refusalBehind
+listed op a b = first-of op a b (refusals (gateOf op)) (low 1 (omega arith), (low 1 (omega arith), (low 2 (omega arith), (low 3 (omega arith), (low 4 (omega arith), (low 5 (omega arith), tt))))))
+
+-- ---- what stands at a place
 
 module _ (op a b : ℕ) (known : operandsIn op ≡ 0 → ⊥) where
   shaped : ℕ → ℕ
@@ -50,16 +79,7 @@ module _ (op a b : ℕ) (known : operandsIn op ≡ 0 → ⊥) where
   unfolding refusalAt
   number-is x e = ap (λ (y : ℕ). y / 2 ^ 32) (place-is-operation ∙ e)
 
-  -- a word alone, as a raw kernel answers: below 2 ^ 32, as the type of a word is
-  alone : (w : ℕ) → operationWords op a b ≡ w → w < 2 ^ 32 → (refusalAt op a b ≡ 0) × (wordAt op a b ≡ w)
-  alone w e h = (number-is w e ∙ div-eq-of-lt h, word-is w e ∙ mod-eq-of-lt h)
-
-  pub raw-place : 0x80 ≤ op → rawOf (kernelOf (op - 0x80)) a b < 2 ^ 32 → (refusalAt op a b ≡ 0) × (wordAt op a b ≡ rawOf (kernelOf (op - 0x80)) a b)
-  raw-place h = alone _ (rw (le-leb 0x80 op h))
-
-  pub answered-place : op < 0x80 → refusalOf op a b ≡ 0 → valueOf op a b < 2 ^ 32 → (refusalAt op a b ≡ 0) × (wordAt op a b ≡ valueOf op a b)
-  answered-place h e = alone _ (rw (lt-leb 0x80 op h, e) (zero-add (valueOf op a b)))
-
+  -- a guarded operation's refusal, with the zero word
   pub refused-place : op < 0x80 → (refusalOf op a b ≡ 0 → ⊥) → (refusalAt op a b ≡ refusalOf op a b) × (wordAt op a b ≡ 0)
   refused-place h r =
       let e : operationWords op a b ≡ packed (refusalOf op a b) 0 = rw (lt-leb 0x80 op h, ne-eqb (refusalOf op a b) 0 r) in
@@ -70,3 +90,50 @@ module _ (op a b : ℕ) (known : operandsIn op ≡ 0 → ⊥) where
 
       below : (n : ℕ) → packed n 0 % 2 ^ 32 ≡ 0
       below n = omega arith
+
+  -- no refusal, with the raw word, which is below 2 ^ 32 as the type of `raw::answer`'s result has it
+  alone : (w : ℕ) → operationWords op a b ≡ w → w < 2 ^ 32 → (refusalAt op a b ≡ 0) × (wordAt op a b ≡ w)
+  alone w e h = (number-is w e ∙ div-eq-of-lt h, word-is w e ∙ mod-eq-of-lt h)
+
+  pub raw-place : 0x80 ≤ op → rawOf (kernelOf (op - 0x80)) a b < 2 ^ 32 → (refusalAt op a b ≡ 0) × (wordAt op a b ≡ rawOf (kernelOf (op - 0x80)) a b)
+  raw-place h = alone _ (rw (le-leb 0x80 op h))
+
+  pub answered-place : op < 0x80 → refusalOf op a b ≡ 0 → valueOf op a b < 2 ^ 32 → (refusalAt op a b ≡ 0) × (wordAt op a b ≡ valueOf op a b)
+  answered-place h e = alone _ (rw (lt-leb 0x80 op h, e) (zero-add (valueOf op a b)))
+
+  -- so a guarded operation's refusal stands there in any case
+  pub guarded-number : op < 0x80 → valueOf op a b < 2 ^ 32 → refusalAt op a b ≡ refusalOf op a b
+  guarded-number h v = go (eqb (refusalOf op a b) 0) refl
+    where
+      go : (t : Bool) → eqb (refusalOf op a b) 0 ≡ t → refusalAt op a b ≡ refusalOf op a b
+      go true e = let z = eqb-true (refusalOf op a b) 0 e in answered-place h z v .0 ∙ sym z
+      go false e = refused-place h (eqb-false (refusalOf op a b) 0 e) .0
+
+  -- and neither 6 nor 7, which are of a number and of a frame
+  pub never-6-or-7 : op < 0x80 → valueOf op a b < 2 ^ 32 → Neither (refusalAt op a b)
+  never-6-or-7 h v = subst Neither (sym (guarded-number h v)) (listed op a b)
+
+-- ---- which numbers are operations
+
+-- no number past the list of kernels has one
+past-the-list : (n : ℕ) → 22 ≤ n → operandsOf (kernelOf n) ≡ 0
+past-the-list n h = ap operandsOf (List·getD-eq-default kernels none h)
+
+listed-number : (n : ℕ) → (operandsOf (kernelOf n) ≡ 0 → ⊥) → (1 ≤ n) × (n ≤ 0x15)
+listed-number n h = (nonzero n h, go (ltb n 22) refl)
+  where
+    go : (t : Bool) → ltb n 22 ≡ t → n ≤ 0x15
+    go true e = omega (arith, ltb-true n 22 e)
+    go false e = absurd (h (past-the-list n (ltb-false n 22 e)))
+
+    nonzero : (n : ℕ) → (operandsOf (kernelOf n) ≡ 0 → ⊥) → 1 ≤ n
+    nonzero zero h = absurd (h refl)
+    nonzero (suc n) h = omega arith
+
+-- an operation is one of 01 to 15 or of 81 to 95
+pub no-other-operation : (op : ℕ) → (operandsIn op ≡ 0 → ⊥) → ((1 ≤ op) × (op ≤ 0x15)) ⊎ ((0x81 ≤ op) × (op ≤ 0x95))
+no-other-operation op h = go (leb 0x80 op) refl h
+  where
+    go : (t : Bool) → leb 0x80 op ≡ t → (operandsOf (kernelOf (cond t (op - 0x80) op)) ≡ 0 → ⊥) → ((1 ≤ op) × (op ≤ 0x15)) ⊎ ((0x81 ≤ op) × (op ≤ 0x95))
+    go true e k = let l = leb-true 0x80 op e in let r = listed-number (op - 0x80) k in inr (omega (arith, l, r .0), omega (arith, l, r .1))
+    go false e k = inl (listed-number op k)

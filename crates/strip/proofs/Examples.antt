@@ -64,6 +64,10 @@ cases =
     ∷ over 0x09 (alone 1) (two 1 1) (alone 7) (alone 8) (untouched 10)
     ∷ over 0x09 (alone 1) (alone 1) (two 7 7) (alone 8) (seen 10 (two 7 7) (alone 8))
     ∷ over 0x09 (alone 1) (alone 1) (alone 7) (two 8 8) (seen 10 (alone 7) (two 8 8))
+    -- two of one length and two of another
+    ∷ over 0x09 (alone 1) (alone 1) (two 7 7) (two 8 8) (seen 10 (two 7 7) (two 8 8))
+    ∷ over 0x09 (alone 1) (two 1 1) (alone 7) (two 8 8) (seen 10 (alone 7) (two 8 8))
+    ∷ over 0x09 (alone 1) (two 1 1) (two 7 7) (alone 8) (seen 10 (two 7 7) (alone 8))
     -- an unknown operation, and one beside lists that do not agree: lengths come first
     ∷ over 0x16 (alone 1) (alone 1) (alone 7) (alone 8) (untouched 6)
     ∷ over 0x16 (alone 1) [] (alone 7) (alone 8) (untouched 10)
@@ -77,9 +81,9 @@ examples = refl
 pub lengths-first : stripRefusal 0x16 (alone 1) [] (alone 7) (alone 8) ≡ 10
 lengths-first = refl
 
--- a refused place is passed, and not the end: one after it is answered
-pub goes-on : stripLeaves (wordAt 0x09) 0 (two 0xbf80_0000 0x4080_0000) (two 0 0) (two 7 7) ≡ two 0 0x4000_0000
-unfolding refusalBehind judged wordAt lt le eq nanBits ofBits toBits
+-- a refused place is passed, and not the end: the place after it is answered
+pub goes-on : shows 0x09 (two 0xbf80_0000 0x4080_0000) (two 0 0) (two 7 7) (two 8 8) ≡ seen 0 (two 0 0x4000_0000) (two 3 0)
+unfolding refusalBehind judged wordAt refusalAt lt le eq nanBits ofBits toBits
 goes-on = refl
 
 -- its own word is 0, and not what was there

@@ -5,12 +5,12 @@ use native.Mathlib.Nat.{suc-ne-zero, mod-lt, div-add-mod'}
 use native.Mathlib.Omega.{arith}
 use mathlib.Core.Path.{_≡_, refl, sym, ap, _∙_}
 use mathlib.Core.Bool.{Bool, true, false, cond, _&&_, false≢true}
-use mathlib.Core.List.{List, [], _∷_}
+use mathlib.Core.List.{List}
 use borrow.Author.Tests.{eq-eqb, ne-eqb, eqb-true}
 use lib.Dec.{eqb}
 use lib.ListN.{length, getD}
 use Rattle.frame.specs.Words.{packed, wordsOf}
-use Rattle.strip.specs.Strip.{operandsIn, used, placeWords, wordAt, refusalAt, zipped, Agree, agree, stripRefusal, stripLeaves, Strips}
+use Rattle.strip.specs.Strip.{operandsIn, used, placeWords, wordAt, refusalAt, Agree, agree, Strips}
 use Rattle.strip.proofs.Places.{zipped-at, zipped-alike}
 
 -- ---- lists that agree
@@ -46,22 +46,26 @@ module _ {op : ℕ} {first second answers refusals : List ℕ} {n : ℕ} {answer
   pub refused-writes-nothing : (n ≡ 0 → ⊥) → (answered ≡ answers) × (refused ≡ refusals)
   refused-writes-nothing h = let e = ne-eqb n 0 h in (run .words ∙ rw e, run .numbers ∙ rw e)
 
+  -- the lists of one that is not refused with 10 have one length
+  pub agreed : (n ≡ 10 → ⊥) → Agree first second answers refusals
+  agreed h = go (agree first second answers refusals) refl (run .refusal)
+    where
+      go : (t : Bool) → agree first second answers refusals ≡ t → n ≡ cond t (cond (eqb (operandsIn op) 0) 6 0) 10 → Agree first second answers refusals
+      go true e d = agree-is first second answers refusals e
+      go false e d = absurd (h d)
+
 -- ---- a run that is not refused
 
 module _ {op : ℕ} {first second answers refusals answered refused : List ℕ} (run : Strips op first second answers refusals 0 answered refused) where
-  pub agreed : Agree first second answers refusals
-  agreed = agree-is first second answers refusals (go _ _ (sym (run .refusal)))
-    where
-      go : (t : Bool) (m : ℕ) → cond t m 10 ≡ 0 → t ≡ true
-      go true m e = refl
-      go false m e = absurd (suc-ne-zero 9 e)
+  long : length second ≡ length first
+  long = agreed run (λ e. suc-ne-zero 9 (sym e)) .seconds
 
   module _ (i : ℕ) (h : i < length first) where
     pub each-word : getD answered i 0 ≡ wordAt op (getD first i 0) (getD second i 0)
-    each-word = ap (λ (l : List ℕ). getD l i 0) (run .words) ∙ zipped-at (wordAt op) first second i (agreed .seconds) h
+    each-word = ap (λ (l : List ℕ). getD l i 0) (run .words) ∙ zipped-at (wordAt op) first second i long h
 
     pub each-number : getD refused i 0 ≡ refusalAt op (getD first i 0) (getD second i 0)
-    each-number = ap (λ (l : List ℕ). getD l i 0) (run .numbers) ∙ zipped-at (refusalAt op) first second i (agreed .seconds) h
+    each-number = ap (λ (l : List ℕ). getD l i 0) (run .numbers) ∙ zipped-at (refusalAt op) first second i long h
 
     -- the two are the halves of what the single call answers there
     pub each-place : packed (getD refused i 0) (getD answered i 0) ≡ wordsOf op (getD first i 0) (used (operandsIn op) (getD second i 0))

@@ -32,7 +32,7 @@ refusalAt op a b = placeWords op a b / 2 ^ 32
 
 -- ---- whole lists
 
--- place by place
+-- place by place; where one list ends before the other there is no place, and no strip comes so far
 abbrev pub zipped : (ℕ → ℕ → ℕ) → List ℕ → List ℕ → List ℕ
 zipped f [] ys = []
 zipped f (x ∷ xs) [] = []
@@ -58,7 +58,7 @@ agree first second answers refusals = eqb (length second) (length first) && eqb 
 abbrev pub stripRefusal : ℕ → List ℕ → List ℕ → List ℕ → List ℕ → ℕ
 stripRefusal op first second answers refusals = cond (agree first second answers refusals) (cond (eqb (operandsIn op) 0) 6 0) 10
 
--- what a list is left with that is filled by f: with a refusal n, what it was
+-- what a list is left with: filled by f where n is 0, and as it was where n is a refusal
 abbrev pub stripLeaves : (ℕ → ℕ → ℕ) → ℕ → List ℕ → List ℕ → List ℕ → List ℕ
 stripLeaves f n first second was = cond (eqb n 0) (zipped f first second) was
 

@@ -6,10 +6,10 @@ ghost use Rattle.strip.specs.Strip.{used, Fills, Agree, Strips};
 use frame::words;
 
 // Runs an operation, guarded or raw, over two lists of words and fills a list with the answers and
-// one with the refusals: 0 where the place is answered, and with a refusal the word is 0. An
-// operation of one operand does not look at the second list; powi's powers stand there in two's
-// complement. Returns 0, or 10 where the four lists have not all one length, or else 6 where there
-// is no such operation; nothing is written then.
+// one with the refusals: 0 where the place is answered, and with a refusal the word is 0. What the
+// second list holds does not matter to an operation of one operand; powi's powers stand there in
+// two's complement. Returns 0, or 10 where the four lists have not all one length, or else 6 where
+// there is no such operation; nothing is written then.
 pub fn run(op: u32, first: &[u32], second: &[u32], answers: &mut [u32], refusals: &mut [u32]) -> u32
     ensures { λ r. ⌜ Strips op (now (first .entry)) (now (second .entry)) (now (answers .entry)) (now (refusals .entry)) r (now (answers .exit)) (now (refusals .exit)) ⌝ }
 {
@@ -31,7 +31,8 @@ pub fn run(op: u32, first: &[u32], second: &[u32], answers: &mut [u32], refusals
 }
 
 // Fills every place of lists that have one length. The operation is found here, once: with its number
-// written out, a loop is compiled for its kernel alone. One without an arm is found at each place.
+// written out, a loop is compiled for its kernel alone. Each has an arm; the last is for a number that
+// has no kernel, which `run` does not let through.
 fn fill_all(op: u32, first: &[u32], second: &[u32], answers: &mut [u32], refusals: &mut [u32])
     requires { ⌜ Agree (now first) (now second) (now answers) (now refusals) ⌝ }
     ensures { λ r. ⌜ Fills op (now (first .entry)) (now (second .entry)) (now (answers .exit)) (now (refusals .exit)) ⌝ }

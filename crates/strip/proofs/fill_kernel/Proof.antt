@@ -3,7 +3,7 @@ use borrow.Author.Needs.{needs}
 use borrow.Author.Tests.{le-leb, lt-leb}
 use Prim.Native.Nat.{ℕ, _+_, _≤_, _<_}
 use native.Mathlib.Omega.{arith}
-use mathlib.Core.Path.{_≡_, sym, _∙_}
+use mathlib.Core.Path.{_≡_, sym}
 use Rattle.frame.specs.Words.{kernelNumber}
 use Rattle.strip.proofs.fill_kernel.Statement.{statement}
 use Rattle.strip.proofs.fill_kernel.Tie as tie
