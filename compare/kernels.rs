@@ -10,17 +10,7 @@ extern "C" {
     fn dampmeadow_atan_norm(a: u32) -> u32;
     fn dampmeadow_atan_norm_guarded(a: u32) -> u64;
     fn dampmeadow_parts(a: u32, whole: &mut u32, rest: &mut u32) -> u32;
-    fn dampmeadow_strip(
-        op: u32,
-        first: *const u32,
-        first_count: usize,
-        second: *const u32,
-        second_count: usize,
-        answers: *mut u32,
-        answers_count: usize,
-        refusals: *mut u32,
-        refusals_count: usize,
-    ) -> u32;
+    fn dampmeadow_strip(op: u32, first: *const u32, n: usize, second: *const u32, m: usize, answers: *mut u32, k: usize, refusals: *mut u32, l: usize) -> u32;
 }
 
 #[link(name = "probe", kind = "static")]

@@ -1,6 +1,6 @@
 -- What belongs to no one function.
 mod Lists
-mod Each
+pub mod Each
 mod Gives
 pub mod First
 pub mod Open

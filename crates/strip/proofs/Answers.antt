@@ -1,13 +1,13 @@
 -- What a place of a strip holds, by its operation: of a guarded one its refusal and the zero word, or no refusal and the raw word; of a
--- raw one no refusal and the raw word. So neither 6 nor 7 stands at a place. Assumes nothing.
+-- raw one no refusal and the raw word. Neither 6 nor 7 stands at a place. Assumes nothing.
 use Prim.Native.Nat.{ℕ, zero, suc, _-_, _/_, _%_, _^_, _≤_, _<_}
 use native.Mathlib.Nat.{zero-add, div-eq-of-lt, mod-eq-of-lt}
 use native.Mathlib.Omega.{arith}
 use mathlib.Core.Path.{_≡_, refl, sym, ap, subst, _∙_}
-use mathlib.Core.Logic.{_⊎_, inl, inr}
+use mathlib.Core.Logic.{_⊎_, inl, inr, ⊎-elim}
 use mathlib.Core.Bool.{Bool, true, false, cond}
 use mathlib.Core.List.{List, [], _∷_}
-use borrow.Author.Tests.{le-leb, lt-leb, ne-eqb, leb-true, ltb-true, ltb-false, eqb-true, eqb-false}
+use borrow.Author.Tests.{le-leb, lt-leb, ne-eqb, leb-true, leb-false, ltb-true, ltb-false, eqb-true, eqb-false}
 use lib.Dec.{leb, ltb, eqb}
 use lib.ListN.{List·getD-eq-default}
 use Rattle.raw.specs.Raw.{Kernel, none, one, two, kernels, kernelOf, operandsOf, rawOf}
@@ -17,6 +17,7 @@ use Rattle.guard.specs.Guarded.{valueOf}
 use Rattle.guard.proofs.Laws.{second-word-is-ignored}
 use Rattle.frame.specs.Words.{packed, answerWords, kernelNumber, operationWords, shapeOf, framed}
 use Rattle.strip.specs.Strip.{operandsIn, used, placeWords, wordAt, refusalAt}
+use Rattle.strip.proofs.Words.{raw-word}
 
 -- ---- an operation, whatever stands in the place of a second word that it does not read
 
@@ -91,27 +92,33 @@ module _ (op a b : ℕ) (known : operandsIn op ≡ 0 → ⊥) where
       below : (n : ℕ) → packed n 0 % 2 ^ 32 ≡ 0
       below n = omega arith
 
-  -- no refusal, with the raw word, which is below 2 ^ 32 as the type of `raw::answer`'s result has it
-  alone : (w : ℕ) → operationWords op a b ≡ w → w < 2 ^ 32 → (refusalAt op a b ≡ 0) × (wordAt op a b ≡ w)
-  alone w e h = (number-is w e ∙ div-eq-of-lt h, word-is w e ∙ mod-eq-of-lt h)
+  module _ (a-lt : a < 2 ^ 32) (b-lt : b < 2 ^ 32) where
+    -- no refusal, with the raw word
+    alone : (n : ℕ) → operationWords op a b ≡ rawOf (kernelOf n) a b → (refusalAt op a b ≡ 0) × (wordAt op a b ≡ rawOf (kernelOf n) a b)
+    alone n e = let h = raw-word n a b a-lt b-lt in (number-is _ e ∙ div-eq-of-lt h, word-is _ e ∙ mod-eq-of-lt h)
 
-  pub raw-place : 0x80 ≤ op → rawOf (kernelOf (op - 0x80)) a b < 2 ^ 32 → (refusalAt op a b ≡ 0) × (wordAt op a b ≡ rawOf (kernelOf (op - 0x80)) a b)
-  raw-place h = alone _ (rw (le-leb 0x80 op h))
+    pub raw-place : 0x80 ≤ op → (refusalAt op a b ≡ 0) × (wordAt op a b ≡ rawOf (kernelOf (op - 0x80)) a b)
+    raw-place h = alone (op - 0x80) (rw (le-leb 0x80 op h))
 
-  pub answered-place : op < 0x80 → refusalOf op a b ≡ 0 → valueOf op a b < 2 ^ 32 → (refusalAt op a b ≡ 0) × (wordAt op a b ≡ valueOf op a b)
-  answered-place h e = alone _ (rw (lt-leb 0x80 op h, e) (zero-add (valueOf op a b)))
+    pub answered-place : op < 0x80 → refusalOf op a b ≡ 0 → (refusalAt op a b ≡ 0) × (wordAt op a b ≡ valueOf op a b)
+    answered-place h e = alone op (rw (lt-leb 0x80 op h, e) (zero-add (valueOf op a b)))
 
-  -- so a guarded operation's refusal stands there in any case
-  pub guarded-number : op < 0x80 → valueOf op a b < 2 ^ 32 → refusalAt op a b ≡ refusalOf op a b
-  guarded-number h v = go (eqb (refusalOf op a b) 0) refl
-    where
-      go : (t : Bool) → eqb (refusalOf op a b) 0 ≡ t → refusalAt op a b ≡ refusalOf op a b
-      go true e = let z = eqb-true (refusalOf op a b) 0 e in answered-place h z v .0 ∙ sym z
-      go false e = refused-place h (eqb-false (refusalOf op a b) 0 e) .0
+    -- what a place shows, whatever the operation: no refusal, or one of the list with the zero word
+    shown : (refusalAt op a b ≡ 0) ⊎ ((refusalAt op a b ≡ refusalOf op a b) × (wordAt op a b ≡ 0))
+    shown = go (leb 0x80 op) refl (eqb (refusalOf op a b) 0) refl
+      where
+        go : (t : Bool) → leb 0x80 op ≡ t → (z : Bool) → eqb (refusalOf op a b) 0 ≡ z → (refusalAt op a b ≡ 0) ⊎ ((refusalAt op a b ≡ refusalOf op a b) × (wordAt op a b ≡ 0))
+        go true e z d = inl (raw-place (leb-true 0x80 op e) .0)
+        go false e true d = inl (answered-place (leb-false 0x80 op e) (eqb-true _ 0 d) .0)
+        go false e false d = inr (refused-place (leb-false 0x80 op e) (eqb-false _ 0 d))
 
-  -- and neither 6 nor 7, which are of a number and of a frame
-  pub never-6-or-7 : op < 0x80 → valueOf op a b < 2 ^ 32 → Neither (refusalAt op a b)
-  never-6-or-7 h v = subst Neither (sym (guarded-number h v)) (listed op a b)
+    -- with a refusal the word is 0
+    pub refused-is-zero : (refusalAt op a b ≡ 0 → ⊥) → wordAt op a b ≡ 0
+    refused-is-zero h = ⊎-elim (λ e. absurd (h e)) (λ r. r .1) shown
+
+    -- and it is neither 6 nor 7, which are of a number and of a frame
+    pub never-6-or-7 : (refusalAt op a b ≡ 6 → ⊥) × (refusalAt op a b ≡ 7 → ⊥)
+    never-6-or-7 = ⊎-elim (λ e. subst Neither (sym e) (low 0 (omega arith))) (λ r. subst Neither (sym (r .0)) (listed op a b)) shown
 
 -- ---- which numbers are operations
 

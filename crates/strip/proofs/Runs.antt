@@ -79,7 +79,7 @@ pub each-alone : {op : ℕ} {first second answers refusals answered refused firs
     → (getD answered i 0 ≡ getD answered′ j 0) × (getD refused i 0 ≡ getD refused′ j 0)
 each-alone r s i j h k a b = (each-word r i h ∙ rw (a, b) (sym (each-word s j k)), each-number r i h ∙ rw (a, b) (sym (each-number s j k)))
 
--- ---- an operation that does not read two words does not look at the second list
+-- ---- what the second list holds does not matter to an operation that does not read two words
 
 module _ (op : ℕ) (h : operandsIn op ≡ 2 → ⊥) where
   unused : (b c : ℕ) → used (operandsIn op) b ≡ used (operandsIn op) c
