@@ -1,6 +1,5 @@
 -- What belongs to no one function.
 mod Both
-mod Leading
 mod Point
 pub mod Signs
 mod Twos

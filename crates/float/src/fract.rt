@@ -16,12 +16,7 @@ impl F32 {
             return self;
         }
         let below = wrap::shl(self.0, self.exponent_clamped()) & F32::MANTISSA_MASK;
-        if below == 0 {
-            return F32::ZERO.copysign(self);
-        }
-        // the leading digit comes up to its own place, and the exponent down by as many
-        let shift = u32::leading_zeros(below) - 8;
-        let digits = (below << shift) & F32::MANTISSA_MASK;
-        F32(((F32::EXPONENT_BIAS - shift) << F32::MANTISSA_BITS) + digits).copysign(self)
+        // under a leading 1, which is taken off again: what is left moves up by itself
+        F32::of(F32(F32::ONE.0 + below).value() - 1.0).copysign(self)
     }
 }

@@ -19,4 +19,5 @@ pub mod Sqrt
 pub mod Invsqrt
 pub mod AtLeastZero
 pub mod Same
+pub mod TakenOff
 pub mod Unique

@@ -15,7 +15,7 @@ use Rattle.format.specs.Estimates.{Normal}
 use Rattle.format.proofs.Fields.{hid-pos}
 use Rattle.format.proofs.Order.{either}
 
-below-top : (f : Format) (w : ℕ) → w < infWord f → w < top f
+pub below-top : (f : Format) (w : ℕ) → w < infWord f → w < top f
 below-top binary32 w h = omega arith
 below-top binary64 w h = omega arith
 

@@ -1,14 +1,14 @@
 -- A finite word's count of units is the very number that `lib.Ieee` reads from its bits, with the word's sign, and the other way round; and
 -- a comparison or a sum of two values is that of their sizes. Assumes nothing.
-use Prim.Native.Nat.{ℕ, zero, suc, _+_, _*_, _/_, _^_, _<_}
-use native.Mathlib.Nat.{lt-irrefl, le-of-suc-le-suc, eq-or-lt-of-le, mul-one, zero-mul, mul-pos, mul-comm, mul-assoc, mul-right-comm, mul-mul-mul-comm, add-mul, eq-of-mul-eq-mul-right, lt-of-mul-lt-mul-right, le-of-mul-le-mul-right, mul-le-mul-right, mul-lt-mul-of-pos-right}
+use Prim.Native.Nat.{ℕ, zero, suc, _+_, _-_, _*_, _/_, _^_, _<_}
+use native.Mathlib.Nat.{lt-irrefl, le-of-suc-le-suc, eq-or-lt-of-le, mul-one, zero-mul, mul-pos, mul-comm, mul-assoc, mul-right-comm, mul-mul-mul-comm, add-mul, mul-sub, eq-of-mul-eq-mul-right, lt-of-mul-lt-mul-right, le-of-mul-le-mul-right, mul-le-mul-right, mul-lt-mul-of-pos-right}
 use mathlib.Core.Path.{_≡_, refl, sym, ap, subst, _∙_}
 use mathlib.Core.Logic.{_⊎_, inl, inr}
-use mathlib.Core.Bool.{Bool, true, false, cond}
+use mathlib.Core.Bool.{Bool, true, false, not, cond, _&&_}
 use borrow.Author.Tests.{ne-eqb, ltb-true, ltb-false, lt-ltb, le-ltb}
 use lib.IntN.{ℤ}
 use lib.Dec.{T, eqb, ltb}
-use lib.Ieee.{Format, Float, nan, inf, fin, up, down, prec, low, hid, ones, odd, round, add, sum, lt, below, fits, ofFields, ofBits, toBits, nanBits}
+use lib.Ieee.{Format, Float, nan, inf, fin, up, down, prec, low, hid, ones, odd, round, add, neg, sum, sub, lt, below, fits, ofFields, ofBits, toBits, nanBits}
 use lib.Ieee.Bits.{ofBits-toBits}
 use lib.Ieee.Exact.{HasValue, odd-sign}
 use lib.Ieee.Fits.{down-pos}
@@ -125,23 +125,44 @@ lt-values (fin i m e) (fin j n k) s t a c b d cp dp v u = go i j (v .0) (u .0)
     go : (i j : Bool) → i ≡ s → j ≡ t → below i (m * up e * down k) j (n * up k * down e) ≡ below s (a * d) t (b * c)
     go i j x y = rw (x, y) (at s t)
 
-pub add-values : (f : Format) (x y : Float) (s : Bool) (a b c : ℕ) → 0 < c → HasValue x s a c → HasValue y s b c → add f x y ≡ round f s (a + b) c
-unfolding add sum
-add-values f nan y s a b c cp v u = absurd v
-add-values f (inf i) y s a b c cp v u = absurd v
-add-values f (fin i m e) nan s a b c cp v u = absurd u
-add-values f (fin i m e) (inf j) s a b c cp v u = absurd u
-add-values f (fin i m e) (fin j n k) s a b c cp v u = go s i j (v .0) (u .0)
+-- ±a / c + ±b / c is the same over another denominator
+same-sum : (f : Format) (s t : Bool) (A B D a b c : ℕ) → 0 < D → 0 < c → A * c ≡ a * D → B * c ≡ b * D → sum f s A t B D ≡ sum f s a t b c
+unfolding sum
+same-sum f s t A B D a b c dp cp p q =
+    rw (same-ltb A B a b c D cp dp p q, same-ltb B A b a c D cp dp q p, round-same f s (A + B) D (a + b) c dp cp total, round-same f t (B - A) D (b - a) c dp cp (less B A c b a D q p), round-same f (s && ltb b a) (A - B) D (a - b) c dp cp (less A B c a b D p q))
   where
-    total : (m * up e * down k + n * up k * down e) * c ≡ (a + b) * (down e * down k)
-    total =
-        add-mul (m * up e * down k) (n * up k * down e) c
-        ∙ rw (mul-right-comm (m * up e) (down k) c, v .1, mul-right-comm (n * up k) (down e) c, u .1, mul-assoc a (down e) (down k), mul-assoc b (down k) (down e), mul-comm (down k) (down e))
-        (sym (add-mul a b (down e * down k)))
+    total : (A + B) * c ≡ (a + b) * D
+    total = add-mul A B c ∙ rw (p, q) (sym (add-mul a b D))
 
-    same : (s : Bool) → round f s (m * up e * down k + n * up k * down e) (down e * down k) ≡ round f s (a + b) c
-    same s = round-same f s (m * up e * down k + n * up k * down e) (down e * down k) (a + b) c (mul-pos (down-pos e) (down-pos k)) cp total
+    less : (m n k x y l : ℕ) → m * k ≡ x * l → n * k ≡ y * l → (m - n) * k ≡ (x - y) * l
+    less m n k x y l e d = mul-comm (m - n) k ∙ mul-sub k m n ∙ rw (mul-comm k m, mul-comm k n, e, d, mul-comm x l, mul-comm y l) (sym (mul-sub l x y)) ∙ mul-comm l (x - y)
 
-    go : (s i j : Bool) → i ≡ s → j ≡ s → sum f i (m * up e * down k) j (n * up k * down e) (down e * down k) ≡ round f s (a + b) c
-    go true i j x y = rw (x, y) (same true)
-    go false i j x y = rw (x, y) (same false)
+-- a sum of two values over one denominator, and a difference, whatever their signs
+pub add-signed : (f : Format) (x y : Float) (s t : Bool) (a b c : ℕ) → 0 < c → HasValue x s a c → HasValue y t b c → add f x y ≡ sum f s a t b c
+unfolding add
+add-signed f nan y s t a b c cp v u = absurd v
+add-signed f (inf i) y s t a b c cp v u = absurd v
+add-signed f (fin i m e) nan s t a b c cp v u = absurd u
+add-signed f (fin i m e) (inf j) s t a b c cp v u = absurd u
+add-signed f (fin i m e) (fin j n k) s t a b c cp v u =
+    rw (v .0, u .0) (same-sum f s t (m * up e * down k) (n * up k * down e) (down e * down k) a b c (mul-pos (down-pos e) (down-pos k)) cp
+    (mul-right-comm (m * up e) (down k) c ∙ ap (λ (z : ℕ). z * down k) (v .1) ∙ mul-assoc a (down e) (down k))
+    (mul-right-comm (n * up k) (down e) c ∙ ap (λ (z : ℕ). z * down e) (u .1) ∙ mul-assoc b (down k) (down e) ∙ ap (λ (z : ℕ). b * z) (mul-comm (down k) (down e))))
+
+pub sub-signed : (f : Format) (x y : Float) (s t : Bool) (a b c : ℕ) → 0 < c → HasValue x s a c → HasValue y t b c → sub f x y ≡ sum f s a (not t) b c
+unfolding sub neg
+sub-signed f x y s t a b c cp v u = add-signed f x (neg y) s (not t) a b c cp v (turned y u)
+  where
+    turned : (y : Float) → HasValue y t b c → HasValue (neg y) (not t) b c
+    turned nan h = absurd h
+    turned (inf j) h = absurd h
+    turned (fin j n k) h = (ap not (h .0), h .1)
+
+-- a sum of two values of one sign
+pub add-values : (f : Format) (x y : Float) (s : Bool) (a b c : ℕ) → 0 < c → HasValue x s a c → HasValue y s b c → add f x y ≡ round f s (a + b) c
+unfolding sum
+add-values f x y s a b c cp v u = add-signed f x y s s a b c cp v u ∙ go s
+  where
+    go : (s : Bool) → sum f s a s b c ≡ round f s (a + b) c
+    go true = refl
+    go false = refl
