@@ -1,5 +1,5 @@
 -- A finite word's count of units is the very number that `lib.Ieee` reads from its bits, with the word's sign, and the other way round; and
--- a comparison or a sum of two values is that of their sizes. Assumes nothing.
+-- a comparison, a sum or a difference of two values is that of their signs and sizes. Assumes nothing.
 use Prim.Native.Nat.{ℕ, zero, suc, _+_, _-_, _*_, _/_, _^_, _<_}
 use native.Mathlib.Nat.{lt-irrefl, le-of-suc-le-suc, eq-or-lt-of-le, mul-one, zero-mul, mul-pos, mul-comm, mul-assoc, mul-right-comm, mul-mul-mul-comm, add-mul, mul-sub, eq-of-mul-eq-mul-right, lt-of-mul-lt-mul-right, le-of-mul-le-mul-right, mul-le-mul-right, mul-lt-mul-of-pos-right}
 use mathlib.Core.Path.{_≡_, refl, sym, ap, subst, _∙_}
@@ -76,7 +76,7 @@ value-word f x s a c h v =
     let both = same-amount (ofBits f r) s (negative f r) a c (units f r) (2 ^ low f) v′ (word-value f r p) in
     record { finite = p; sign = both .0; amount = both .1 }
 
--- ---- a comparison and a sum, by the values
+-- ---- a comparison, a sum and a difference, by the values
 
 same-ltb : (a b p q k j : ℕ) → 0 < k → 0 < j → a * k ≡ p * j → b * k ≡ q * j → ltb a b ≡ ltb p q
 same-ltb a b p q k j kp jp e d = go (ltb p q) refl
@@ -126,16 +126,19 @@ lt-values (fin i m e) (fin j n k) s t a c b d cp dp v u = go i j (v .0) (u .0)
     go i j x y = rw (x, y) (at s t)
 
 -- ±a / c + ±b / c is the same over another denominator
-same-sum : (f : Format) (s t : Bool) (A B D a b c : ℕ) → 0 < D → 0 < c → A * c ≡ a * D → B * c ≡ b * D → sum f s A t B D ≡ sum f s a t b c
+same-sum : (f : Format) (s t : Bool) (m n d a b c : ℕ) → 0 < d → 0 < c → m * c ≡ a * d → n * c ≡ b * d → sum f s m t n d ≡ sum f s a t b c
 unfolding sum
-same-sum f s t A B D a b c dp cp p q =
-    rw (same-ltb A B a b c D cp dp p q, same-ltb B A b a c D cp dp q p, round-same f s (A + B) D (a + b) c dp cp total, round-same f t (B - A) D (b - a) c dp cp (less B A c b a D q p), round-same f (s && ltb b a) (A - B) D (a - b) c dp cp (less A B c a b D p q))
+same-sum f s t m n d a b c dp cp p q =
+    rw (same-ltb m n a b c d cp dp p q, same-ltb n m b a c d cp dp q p, same s (m + n) (a + b) total, same t (n - m) (b - a) (less n m b a q p), same (s && ltb b a) (m - n) (a - b) (less m n a b p q))
   where
-    total : (A + B) * c ≡ (a + b) * D
-    total = add-mul A B c ∙ rw (p, q) (sym (add-mul a b D))
+    same : (i : Bool) (k x : ℕ) → k * c ≡ x * d → round f i k d ≡ round f i x c
+    same i k x e = round-same f i k d x c dp cp e
 
-    less : (m n k x y l : ℕ) → m * k ≡ x * l → n * k ≡ y * l → (m - n) * k ≡ (x - y) * l
-    less m n k x y l e d = mul-comm (m - n) k ∙ mul-sub k m n ∙ rw (mul-comm k m, mul-comm k n, e, d, mul-comm x l, mul-comm y l) (sym (mul-sub l x y)) ∙ mul-comm l (x - y)
+    total : (m + n) * c ≡ (a + b) * d
+    total = add-mul m n c ∙ rw (p, q) (sym (add-mul a b d))
+
+    less : (k l x y : ℕ) → k * c ≡ x * d → l * c ≡ y * d → (k - l) * c ≡ (x - y) * d
+    less k l x y e h = mul-comm (k - l) c ∙ mul-sub c k l ∙ rw (mul-comm c k, mul-comm c l, e, h, mul-comm x d, mul-comm y d) (sym (mul-sub d x y)) ∙ mul-comm d (x - y)
 
 -- a sum of two values over one denominator, and a difference, whatever their signs
 pub add-signed : (f : Format) (x y : Float) (s t : Bool) (a b c : ℕ) → 0 < c → HasValue x s a c → HasValue y t b c → add f x y ≡ sum f s a t b c
