@@ -1,8 +1,9 @@
--- Orders between whole numbers that the bounds need: which of two is less, two laws on products, and a subtraction that need not wrap. Assumes nothing.
+-- Orders between whole numbers that the bounds need: which of two is less, two laws on products, and two subtractions: of products, and one that
+-- need not wrap. Assumes nothing.
 use Prim.Native.Nat.{ℕ, _+_, _-_, _*_, _%_, _≤_, _<_}
-use native.Mathlib.Nat.{le-of-lt, le-dest, add-sub-assoc, add-mod-left, mod-eq-of-lt}
+use native.Mathlib.Nat.{le-of-lt, le-dest, add-sub-assoc, add-mod-left, mod-eq-of-lt, mul-comm, mul-sub}
 use native.Mathlib.Omega.{arith}
-use mathlib.Core.Path.{_≡_, refl, sym}
+use mathlib.Core.Path.{_≡_, refl, sym, _∙_}
 use mathlib.Core.Logic.{_⊎_, inl, inr}
 use mathlib.Core.Bool.{Bool, true, false}
 use borrow.Author.Tests.{leb-true, leb-false}
@@ -24,6 +25,9 @@ squares a b = ordered (either a b)
     ordered : (a ≤ b) ⊎ (b < a) → 2 * (a * b) ≤ a * a + b * b
     ordered (inl h) = omega (arith, rearranged h h)
     ordered (inr h) = omega (arith, rearranged (le-of-lt h) (le-of-lt h))
+
+pub sub-mul : (a b k : ℕ) → (a - b) * k ≡ a * k - b * k
+sub-mul a b k = mul-comm (a - b) k ∙ mul-sub k a b ∙ rw (mul-comm k a, mul-comm k b)
 
 pub no-wrap : (n m w : ℕ) → w ≤ m → m < n → (n + m - w) % n ≡ m - w
 no-wrap n m w h l = rw (add-sub-assoc h n, add-mod-left) (mod-eq-of-lt (omega arith))

@@ -1,16 +1,19 @@
--- The bits below the point, as shifts find them, and the word of a fraction, as an exponent and digits. Assumes nothing.
+-- The bits below the point, as shifts find them, and the word of a fraction. Assumes nothing.
 use Prim.Native.Nat.{ℕ, suc, _+_, _-_, _*_, _/_, _%_, _^_, _<_, _≤_}
-use native.Mathlib.Nat.{mod-one, mul-assoc, mul-mod-left, mul-div-cancel, zero-mul, add-zero, le-antisymm, le-trans, lt-of-lt-of-le, lt-of-le-of-lt, le-of-lt, lt-irrefl, lt-of-not-le, mul-le-mul-right, mul-lt-mul-of-pos-right, suc-mul}
+use native.Mathlib.Nat.{mod-one, mod-lt, mul-assoc, mul-mod-left, mul-div-cancel, zero-mul, zero-add, add-zero, lt-of-lt-of-le, mul-lt-mul-of-pos-right}
 use native.Mathlib.Omega.{arith}
 use mathlib.Core.Path.{_≡_, refl, sym, ap, subst, _∙_}
 use mathlib.Core.Bool.{Bool, true, false}
 use borrow.Author.Tests.{leb-true, leb-false}
 use lib.Dec.{leb}
 use lib.Pow.{pow-add, pow-pos, pow-mono, mod-pow-add}
-use lib.Ieee.{Format, prec, emax, hid, size}
-use lib.Ieee.Digits.{size-lt, size-le}
+use lib.Ieee.{Format, prec, emax, low, hid, top, round, toBits}
 use lib.Ieee.Fits.{two}
-use Rattle.format.specs.Parts.{written}
+use Rattle.format.specs.Fields.{signBit}
+use Rattle.format.specs.Exponent.{places}
+use Rattle.format.specs.Parts.{belowPoint, written}
+use Rattle.format.proofs.Fields.{hid-pos}
+use Rattle.format.proofs.Same.{Counted, counted, count-written}
 
 -- moved up by c and cut to p places, a number keeps its p - c lowest
 pub moved-up : (w c p : ℕ) → w * 2 ^ c % 2 ^ p ≡ w % 2 ^ (p - c) * 2 ^ c
@@ -37,36 +40,26 @@ moved-up w c p = go (leb c p) refl
 pub back-down : (w c p : ℕ) → w * 2 ^ c % 2 ^ p / 2 ^ c ≡ w % 2 ^ (p - c)
 back-down w c p = ap (λ (n : ℕ). n / 2 ^ c) (moved-up w c p) ∙ mul-div-cancel (w % 2 ^ (p - c)) (pow-pos c)
 
--- a number between two powers of two has as many digits as the upper one's exponent
-pub size-is : (a n : ℕ) → 2 ^ a ≤ n → n < 2 ^ suc a → size n ≡ suc a
-size-is a n lo hi =
-    le-antisymm (size-le n (suc a) hi)
-    (lt-of-not-le (λ (g : size n ≤ a). lt-irrefl n (lt-of-lt-of-le (size-lt n) (le-trans (pow-mono g) lo))))
+-- the bits below the point, moved up to the point, are a fraction over hid f
+pub below-lt : (f : Format) (w : ℕ) → belowPoint f w * 2 ^ places f w < hid f
+below-lt f w = subst (λ (n : ℕ). n < hid f) (moved-up w (places f w) (prec f - 1)) (mod-lt (w * 2 ^ places f w) (hid-pos f))
 
--- a number of k digits more than the format keeps drops k, and that is the field that it is written with
-pub written-is : (f : Format) (n k q : ℕ) → hid f ≤ q → q < 2 * hid f → n ≡ q * 2 ^ k → written f n ≡ k * hid f + q
-unfolding written
-written-is f n k q lo hi e =
-    let full : 2 ^ (prec f - 1 + k) ≤ n = subst (λ (x : ℕ). x ≤ n) (sym (pow-add 2 (prec f - 1) k)) (rw e (mul-le-mul-right (2 ^ k) lo)) in
-    let more : suc (prec f - 1 + k) ≡ prec f + k = omega (arith, two f) in
-    let twice : 2 * hid f ≡ 2 ^ prec f = doubled (prec f) (two f) in
-    let under : n < 2 ^ suc (prec f - 1 + k) =
-    subst (λ (x : ℕ). n < 2 ^ x) (sym more) (subst (λ (x : ℕ). n < x) (sym (pow-add 2 (prec f) k)) (rw (e, ← twice) (mul-lt-mul-of-pos-right hi (pow-pos k)))) in
-    let dropped : size n - prec f ≡ k = ap (λ (x : ℕ). x - prec f) (size-is (prec f - 1 + k) n full under) ∙ omega (arith, two f) in
-    ap (λ (j : ℕ). j * hid f + n / 2 ^ j) dropped
-    ∙ ap (λ (x : ℕ). k * hid f + x / 2 ^ k) e
-    ∙ ap (λ (x : ℕ). k * hid f + x) (mul-div-cancel q (pow-pos k))
-  where
-    doubled : (p : ℕ) → 2 ≤ p → 2 * 2 ^ (p - 1) ≡ 2 ^ p
-    doubled p h = sym (ap (λ (x : ℕ). 2 ^ x) (let e : p ≡ 1 + (p - 1) = omega arith in e) ∙ pow-add 2 1 (p - 1))
+-- a fraction b over hid f, whose last digit is 2 ^ (emax f - 1) units, is a number of the format's
+module _ (f : Format) (s : Bool) (b : ℕ) (b-lt : b < hid f) where
+  few : b < 2 ^ prec f
+  few = lt-of-lt-of-le b-lt (pow-mono (omega arith))
 
--- a fraction b / 2 ^ (prec f - 1) whose leading digit comes up by s places: the exponent goes down by as many
-pub fraction-written : (f : Format) (b s : ℕ) → hid f ≤ b * 2 ^ s → b * 2 ^ s < 2 * hid f → s < emax f
-    → written f (b * 2 ^ (emax f - 1)) ≡ (emax f - s) * hid f + (b * 2 ^ s - hid f)
-fraction-written f b s lo hi h =
-    let g = emax f - 1 - s in
-    let split : emax f - 1 ≡ s + g = omega arith in
-    let next : emax f - s ≡ suc g = omega arith in
-    written-is f (b * 2 ^ (emax f - 1)) g (b * 2 ^ s) lo hi
-    (ap (λ (k : ℕ). b * 2 ^ k) split ∙ ap (λ (x : ℕ). b * x) (pow-add 2 s g) ∙ sym (mul-assoc b (2 ^ s) (2 ^ g)))
-    ∙ sym (ap (λ (x : ℕ). x * hid f + (b * 2 ^ s - hid f)) next ∙ ap (λ (x : ℕ). x + (b * 2 ^ s - hid f)) (suc-mul g (hid f)) ∙ omega arith)
+  fine : b * 2 ^ (emax f - 1) < 2 ^ (low f + suc (emax f))
+  fine =
+      lt-of-lt-of-le (mul-lt-mul-of-pos-right b-lt (pow-pos (emax f - 1)))
+      (subst (λ (n : ℕ). n ≤ 2 ^ (low f + suc (emax f))) (pow-add 2 (prec f - 1) (emax f - 1)) (pow-mono (omega (arith, two f))))
+
+  pub fraction-written : toBits f (round f s (b * 2 ^ (emax f - 1)) (2 ^ low f)) ≡ signBit f s + written f (b * 2 ^ (emax f - 1))
+  fraction-written = count-written f s b (emax f - 1) few fine
+
+  pub fraction-word : Counted f s (b * 2 ^ (emax f - 1)) (signBit f s + written f (b * 2 ^ (emax f - 1)))
+  fraction-word = counted f s b (emax f - 1) few fine
+
+-- what is written for one leaves the sign bit clear
+pub fraction-top : (f : Format) (b : ℕ) → b < hid f → written f (b * 2 ^ (emax f - 1)) < top f
+fraction-top f b h = subst (λ (n : ℕ). n < top f) (zero-add _) (leb-false _ _ (fraction-word f false b h .sign))

@@ -1,24 +1,23 @@
 -- trunc is the whole part and fract the rest, each with the operand's sign bit, wherever the exponent is below the word's width:
 -- for |x| under 2 ^ 32 at binary32. Both are exact, and their sum is x. Assumes nothing.
 use Prim.Native.Nat.{ℕ, zero, suc, _+_, _-_, _*_, _/_, _%_, _^_, _<_, _≤_}
-use native.Mathlib.Nat.{mul-sub, add-comm, add-mul-mod-self-right, mod-lt, mod-eq-of-lt, mod-one, mod-le, div-eq-of-lt, mul-assoc, mul-comm, mul-div-cancel, mul-mod-left, zero-mul, add-zero, div-add-mod', lt-of-lt-of-le, lt-of-le-of-lt, lt-trans, le-trans, le-of-lt, sub-le, mul-lt-mul-of-pos-right, mul-le-mul-left, mul-le-mul-right, mod-mod-of-dvd}
+use native.Mathlib.Nat.{add-comm, add-mul-mod-self-right, mod-eq-of-lt, mod-le, div-eq-of-lt, mul-assoc, zero-mul, add-zero, div-add-mod', lt-of-lt-of-le, lt-of-le-of-lt, lt-trans, sub-le}
 use native.Mathlib.Omega.{arith}
 use mathlib.Core.Path.{_≡_, refl, sym, ap, subst, _∙_}
 use mathlib.Core.Bool.{Bool, true, false, cond}
 use borrow.Author.Tests.{ltb-true, ltb-false}
-use lib.Arith.{digits-div, digits-mod}
 use lib.Dec.{ltb, lit<, lit≤}
-use lib.Pow.{pow-pos, pow-add, pow-mono, mod-mod-pow, shl-lt}
-use lib.Ieee.{Format, binary32, binary64, prec, emax, low, hid, ones, top, size}
-use lib.Ieee.Digits.{size-lt, size-le, size-reaches}
+use lib.Pow.{pow-add, pow-mono, mod-mod-pow, shl-lt}
+use lib.Ieee.{Format, binary32, binary64, prec, emax, low, hid, ones, top}
 use lib.Ieee.Fits.{two}
-use Rattle.format.specs.Fields.{width, negative, magnitude, exponent, fraction, signBit}
+use Rattle.format.specs.Fields.{width, negative, exponent, fraction, signBit}
 use Rattle.format.specs.Exponent.{places}
 use Rattle.format.specs.Value.{unitsAt, units, Finite}
 use Rattle.format.specs.Parts.{belowPoint, truncWord, fractWord, written}
 use Rattle.format.specs.Meaning.{IsTrunc, IsFract, Under32}
 use Rattle.format.proofs.Fields.{hid-pos, Made, made, three-fields, exponent-lt, fraction-lt}
-use Rattle.format.proofs.Parts.{moved-up, fraction-written}
+use Rattle.format.proofs.Order.{sub-mul}
+use Rattle.format.proofs.Parts.{moved-up, below-lt, fraction-word}
 
 -- the sum of the two parts is the number
 pub parts-sum : (f : Format) (w t r : ℕ) → IsTrunc f w t → IsFract f w r → units f t + units f r ≡ units f w
@@ -50,9 +49,6 @@ under-one f (suc y) t h k = lt-of-lt-of-le (shl-lt (prec f) y (full f t k)) (pow
 -- the weight of a significand's last place, and of the point
 weights : (f : Format) (x : ℕ) → emax f ≤ suc x → low f - x ≡ prec f - 1 - (suc x - emax f)
 weights f x h = omega (arith, two f)
-
-sub-mul : (a b k : ℕ) → (a - b) * k ≡ a * k - b * k
-sub-mul a b k = mul-comm (a - b) k ∙ mul-sub k a b ∙ rw (mul-comm k a, mul-comm k b)
 
 module _ (a y l q : ℕ) (d : l - y ≡ q) where
   rest-of : a * 2 ^ y % 2 ^ l ≡ a % 2 ^ q * 2 ^ y
@@ -117,68 +113,6 @@ past-rest f (suc y) t h =
 units-of : (f : Format) (s : Bool) (x t r : ℕ) → Made f s x t r → units f r ≡ unitsAt f x t
 units-of f s x t r m = rw (m .field, m .digits)
 
--- ---- the word of a fraction
-
-record Fraction (f : Format) (s : Bool) (n r : ℕ) : Type 0 where
-  finite : Finite f r
-  sign : negative f r ≡ s
-  size-is : units f r ≡ n
-
-narrow : (f : Format) → prec f - 1 < emax f
-narrow binary32 = lit< tt
-narrow binary64 = lit< tt
-
-ones-above : (f : Format) → emax f < ones f
-ones-above binary32 = lit< tt
-ones-above binary64 = lit< tt
-
-at-field : (f : Format) (s : Bool) (x t : ℕ) → x ≤ emax f → t < hid f → Fraction f s (unitsAt f x t) (signBit f s + (x * hid f + t))
-at-field f s x t h k =
-    let r = signBit f s + (x * hid f + t) in
-    let m : Made f s x t r = made f s x t (omega (arith, ones-above f)) k in
-    record { finite = subst (λ (y : ℕ). y < ones f) (sym (m .field)) (lt-of-le-of-lt h (ones-above f)); sign = m .sign; size-is = units-of f s x t r m }
-
-nothing : (f : Format) → written f 0 ≡ 0
-unfolding written
-nothing binary32 = refl
-nothing binary64 = refl
-
-at-zero : (f : Format) (s : Bool) → Fraction f s 0 (signBit f s + written f 0)
-at-zero f s =
-    subst (λ (n : ℕ). Fraction f s 0 (signBit f s + n)) (sym (nothing f ∙ sym (add-zero (0 * hid f) ∙ zero-mul (hid f)))) (at-field f s 0 0 (omega arith) (hid-pos f))
-
--- the units of a field that is shift below the bias, with the leading digit put back
-raised : (f : Format) (b shift x : ℕ) → hid f ≤ b * 2 ^ shift → x ≡ emax f - shift → shift < emax f → unitsAt f x (b * 2 ^ shift - hid f) ≡ b * 2 ^ (emax f - 1)
-raised f b shift zero lo e h = absurd (let z : ⊥ = omega arith in z)
-raised f b shift (suc g) lo e h =
-    ap (λ (n : ℕ). n * 2 ^ g) (let i : hid f + (b * 2 ^ shift - hid f) ≡ b * 2 ^ shift = omega arith in i)
-    ∙ mul-assoc b (2 ^ shift) (2 ^ g)
-    ∙ ap (λ (n : ℕ). b * n) (sym (pow-add 2 shift g))
-    ∙ ap (λ (k : ℕ). b * 2 ^ k) (let i : shift + g ≡ emax f - 1 = omega arith in i)
-
-fraction-word : (f : Format) (s : Bool) (b : ℕ) → b < hid f → Fraction f s (b * 2 ^ (emax f - 1)) (signBit f s + written f (b * 2 ^ (emax f - 1)))
-fraction-word f s zero h = subst (λ (n : ℕ). Fraction f s n (signBit f s + written f n)) (sym (zero-mul (2 ^ (emax f - 1)))) (at-zero f s)
-fraction-word f s (suc a) h =
-    let b = suc a in
-    let p = prec f - 1 in
-    let z = size b in
-    let z-le : z ≤ p = size-le b p h in
-    let z-pos : 0 < z = some z (size-lt b) in
-    let shift = p - (z - 1) in
-    let up : 2 ^ (z - 1) ≤ b = size-reaches b (z - 1) (omega arith) in
-    let lo : hid f ≤ b * 2 ^ shift =
-    subst (λ (n : ℕ). n ≤ b * 2 ^ shift) (sym (pow-add 2 (z - 1) shift) ∙ ap (λ (k : ℕ). 2 ^ k) (let i : z - 1 + shift ≡ p = omega arith in i)) (mul-le-mul-right (2 ^ shift) up) in
-    let hi : b * 2 ^ shift < 2 * hid f =
-    subst (λ (n : ℕ). b * 2 ^ shift < n) (sym (pow-add 2 z shift) ∙ ap (λ (k : ℕ). 2 ^ k) (let i : z + shift ≡ 1 + p = omega arith in i) ∙ pow-add 2 1 p) (mul-lt-mul-of-pos-right (size-lt b) (pow-pos shift)) in
-    let s-lt : shift < emax f = omega (arith, narrow f) in
-    subst (λ (n : ℕ). Fraction f s (b * 2 ^ (emax f - 1)) (signBit f s + n)) (sym (fraction-written f b shift lo hi s-lt))
-    (subst (λ (n : ℕ). Fraction f s n (signBit f s + ((emax f - shift) * hid f + (b * 2 ^ shift - hid f)))) (raised f b shift (emax f - shift) lo refl s-lt)
-    (at-field f s (emax f - shift) (b * 2 ^ shift - hid f) (sub-le (emax f) shift) (omega arith)))
-  where
-    some : (z : ℕ) → suc a < 2 ^ z → 0 < z
-    some zero k = omega arith
-    some (suc z) k = omega arith
-
 -- ---- the two laws
 
 -- where a count of places is not taken down by the word's width
@@ -213,11 +147,11 @@ trunc-is f w l h = go (ltb (exponent f w) (emax f)) refl
     go : (b : Bool) → ltb (exponent f w) (emax f) ≡ b → IsTrunc f w (cond b (signBit f (negative f w)) (w - belowPoint f w))
     go true e =
         let s = negative f w in
-        let z : Fraction f s 0 (signBit f s) = subst (Fraction f s 0) (ap (λ (n : ℕ). signBit f s + n) (nothing f) ∙ add-zero (signBit f s)) (at-zero f s) in
+        let z : Made f s 0 0 (signBit f s) = subst (Made f s 0 0) (rw (zero-mul (hid f), add-zero 0) (add-zero (signBit f s))) (made f s 0 0 (omega arith) (hid-pos f)) in
         record {
-          finite = z .finite;
+          finite = subst (λ (x : ℕ). x < ones f) (sym (z .field)) (omega arith);
           sign = z .sign;
-          whole = z .size-is ∙ sym (ap (λ (n : ℕ). n * 2 ^ low f) (div-eq-of-lt (small-units f w (ltb-true _ _ e))) ∙ zero-mul (2 ^ low f));
+          whole = units-of f s 0 0 (signBit f s) z ∙ sym (ap (λ (n : ℕ). n * 2 ^ low f) (div-eq-of-lt (small-units f w (ltb-true _ _ e))) ∙ zero-mul (2 ^ low f));
         }
     go false e =
         let s = negative f w in
@@ -247,12 +181,11 @@ fract-is f w h = go (ltb (exponent f w) (emax f)) refl
         let x = exponent f w in
         let t = fraction f w in
         let b = belowPoint f w * 2 ^ places f w in
-        let b-lt : b < hid f = subst (λ (n : ℕ). n < hid f) (moved-up w (places f w) (prec f - 1)) (mod-lt (w * 2 ^ places f w) (hid-pos f)) in
-        let z = fraction-word f (negative f w) b b-lt in
+        let z = fraction-word f (negative f w) b (below-lt f w) in
         record {
           finite = z .finite;
           sign = z .sign;
-          rest = z .size-is ∙ ap (λ (n : ℕ). n * 2 ^ (emax f - 1)) (ap (λ (n : ℕ). n * 2 ^ places f w) (below-is f w h) ∙ ap (λ (c : ℕ). t % 2 ^ left f x * 2 ^ c) (place-is f w h)) ∙ sym (past-rest f x t (ltb-false _ _ e));
+          rest = z .count ∙ ap (λ (n : ℕ). n * 2 ^ (emax f - 1)) (ap (λ (n : ℕ). n * 2 ^ places f w) (below-is f w h) ∙ ap (λ (c : ℕ). t % 2 ^ left f x * 2 ^ c) (place-is f w h)) ∙ sym (past-rest f x t (ltb-false _ _ e));
         }
 
 -- at binary32

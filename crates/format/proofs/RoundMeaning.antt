@@ -2,7 +2,7 @@
 -- with a half rounds up to 1; a zero is +0. Assumes nothing.
 use Prim.Native.Nat.{ℕ, zero, suc, _+_, _-_, _*_, _/_, _%_, _^_, _<_, _≤_, suc-le-suc, compare}
 use native.Mathlib.Numerals.{add-one}
-use native.Mathlib.Nat.{pow-succ', le-add-right, le-add-left, div-eq-of-lt, div-le-self, mod-one, div-one, mod-lt, mul-assoc, mul-comm, mul-one, one-mul, add-mul, suc-mul, zero-mul, mul-pos, mul-div-cancel, mul-mod-left, div-mul-le-self, div-lt-iff-lt-mul, div-eq-of-lt-le, le-div-iff-mul-le, le-of-mul-le-mul-right, eq-of-mul-eq-mul-right, mul-le-mul-left, mul-le-mul-right, mul-lt-mul-of-pos-right, le-trans, le-of-lt, lt-of-lt-of-le, lt-of-le-of-lt, lt-suc-self, zero-lt-suc, le-of-eq}
+use native.Mathlib.Nat.{pow-succ', le-add-right, le-add-left, div-eq-of-lt, div-le-self, mod-one, div-one, mod-lt, mul-assoc, mul-comm, mul-one, one-mul, add-mul, suc-mul, zero-mul, mul-pos, mul-div-cancel, mul-mod-left, div-mul-le-self, div-lt-iff-lt-mul, div-eq-of-lt-le, le-div-iff-mul-le, le-of-mul-le-mul-right, eq-of-mul-eq-mul-right, mul-le-mul-left, mul-le-mul-right, mul-lt-mul-of-pos-right, le-antisymm, le-trans, le-of-lt, lt-irrefl, lt-of-not-le, lt-of-lt-of-le, lt-of-le-of-lt, lt-suc-self, zero-lt-suc, le-of-eq}
 use native.Mathlib.Omega.{arith}
 use mathlib.Core.Path.{_≡_, refl, sym, ap, subst, _∙_}
 use mathlib.Core.Bool.{Bool, true, false, cond}
@@ -10,6 +10,7 @@ use borrow.Author.Tests.{ltb-true, ltb-false}
 use lib.Dec.{ltb, lit<, lit≤}
 use lib.Pow.{pow-pos, pow-add, pow-mono, shl-lt}
 use lib.Ieee.{Format, binary32, Float, prec, emax, low, hid, ones, size, nearest, units as unitsOf, round, add, ofBits, ofInt, toSigned}
+use lib.Ieee.Digits.{size-lt, size-le}
 use lib.Ieee.Exact.{HasValue, units-val}
 use lib.Ieee.Fits.{core, round-is, ofInt-fits}
 use lib.Ieee.Nearest.{closest, closest-mono, closest-same, div-same}
@@ -22,12 +23,17 @@ use Rattle.format.specs.Meaning.{IsRound, Under23}
 use Rattle.format.proofs.Cast.{held, value-cast}
 use Rattle.format.proofs.Fields.{fraction-lt, two-fields}
 use Rattle.format.proofs.FloorMeaning.{Exact, through-positive, through-negative, nothing-through}
-use Rattle.format.proofs.Parts.{size-is}
 use Rattle.format.proofs.PartsMeaning.{full}
 use Rattle.format.proofs.Sign.{copysign-is}
 use Rattle.format.proofs.Value.{word-value, value-word, add-values}
 
 -- ---- rounding that crosses no whole number
+
+-- a number between two powers of two has as many digits as the upper one's exponent
+size-is : (a n : ℕ) → 2 ^ a ≤ n → n < 2 ^ suc a → size n ≡ suc a
+size-is a n lo hi =
+    le-antisymm (size-le n (suc a) hi)
+    (lt-of-not-le (λ (g : size n ≤ a). lt-irrefl n (lt-of-lt-of-le (size-lt n) (le-trans (pow-mono g) lo))))
 
 -- a multiple is its own nearest
 of-multiple : (c b : ℕ) → 0 < b → closest (c * b) b ≡ c

@@ -1,23 +1,22 @@
 -- A fraction put below a leading 1, and the 1 taken off again: the language's own subtraction moves the fraction up, exactly, and leaves +0
 -- where there is none. So it gives the fraction's word. Assumes nothing.
-use Prim.Native.Nat.{ℕ, suc, _+_, _-_, _*_, _^_, _<_, _≤_}
-use native.Mathlib.Nat.{add-mul, add-zero, zero-add, lt-of-lt-of-le, mul-le-mul-right, mul-lt-mul-of-pos-right, mul-div-cancel}
+use Prim.Native.Nat.{ℕ, suc, _+_, _-_, _*_, _^_, _<_}
+use native.Mathlib.Nat.{add-mul, add-zero, zero-add, mul-le-mul-right}
 use native.Mathlib.Omega.{arith}
-use mathlib.Core.Path.{_≡_, refl, sym, ap, subst, _∙_}
+use mathlib.Core.Path.{_≡_, refl, sym, ap, _∙_}
 use mathlib.Core.Bool.{false}
-use borrow.Author.Tests.{leb-false, lt-leb, le-ltb}
+use borrow.Author.Tests.{lt-leb, le-ltb}
 use lib.Dec.{lit<}
-use lib.Pow.{pow-pos, pow-add, pow-mono}
-use lib.Ieee.{Format, binary32, binary64, Float, prec, emax, low, hid, top, round, sub, sum, ofBits, toBits}
-use lib.Ieee.Exact.{HasValue, round-exact}
-use lib.Ieee.Fits.{two, sub-fits}
+use lib.Pow.{pow-pos}
+use lib.Ieee.{Format, binary32, binary64, emax, low, hid, top, round, sub, sum, ofBits, toBits}
+use lib.Ieee.Exact.{HasValue}
 use Rattle.format.specs.Fields.{negative, oneWord, infWord}
 use Rattle.format.specs.Value.{units}
 use Rattle.format.specs.Parts.{written}
 use Rattle.format.proofs.Fields.{hid-pos}
 use Rattle.format.proofs.Normal.{below-top, units-of, finite-below}
-use Rattle.format.proofs.Same.{written-value}
-use Rattle.format.proofs.Value.{word-value, value-word, sub-signed}
+use Rattle.format.proofs.Parts.{fraction-written}
+use Rattle.format.proofs.Value.{word-value, sub-signed}
 
 one-up : (f : Format) → suc (emax f - 1) ≡ emax f
 one-up binary32 = refl
@@ -42,30 +41,12 @@ module _ (f : Format) (b : ℕ) (b-lt : b < hid f) where
       let v = word-value f w (finite-below f w l) in
       rw (u, s) at v
 
-  abbrev pub rest : Float
-  rest = sub f (ofBits f (oneWord f + b)) (ofBits f (oneWord f))
-
-  rounded : rest ≡ round f false (b * last) (2 ^ low f)
+  rounded : sub f (ofBits f (oneWord f + b)) (ofBits f (oneWord f)) ≡ round f false (b * last) (2 ^ low f)
   unfolding sum
   rounded =
       sub-signed f _ _ false false ((hid f + b) * last) ((hid f + 0) * last) (2 ^ low f) (pow-pos (low f)) (led _ b refl b-lt) (led _ 0 (sym (add-zero _)) (hid-pos f))
       ∙ rw (le-ltb ((hid f + b) * last) ((hid f + 0) * last) (mul-le-mul-right last (omega arith)))
       (ap (λ (n : ℕ). round f false n (2 ^ low f)) (let d : (hid f + b) * last - (hid f + 0) * last ≡ b * last = rw (add-mul (hid f) b last) (omega arith) in d))
 
-  exact : HasValue rest false (b * last) (2 ^ low f)
-  exact = rw rounded (round-exact f false (b * last) (2 ^ low f) b (emax f - 1) (pow-pos (low f)) few fine refl)
-    where
-      few : b < 2 ^ prec f
-      few = lt-of-lt-of-le b-lt (pow-mono (omega arith))
-
-      fine : b * last < 2 ^ (low f + suc (emax f))
-      fine = lt-of-lt-of-le (mul-lt-mul-of-pos-right b-lt (pow-pos (emax f - 1))) (subst (λ (n : ℕ). n ≤ 2 ^ (low f + suc (emax f))) (pow-add 2 (prec f - 1) (emax f - 1)) (pow-mono (omega (arith, two f))))
-
-  pub taken-off : toBits f rest ≡ written f (b * last)
-  taken-off =
-      written-value f rest false (b * last) (2 ^ low f) (pow-pos (low f)) exact
-      ∙ zero-add _
-      ∙ ap (written f) (mul-div-cancel (b * last) (pow-pos (low f)))
-
-  pub sign-clear : toBits f rest < top f
-  sign-clear = leb-false _ _ (value-word f rest false (b * last) (2 ^ low f) (sub-fits f _ _) exact .sign)
+  pub taken-off : toBits f (sub f (ofBits f (oneWord f + b)) (ofBits f (oneWord f))) ≡ written f (b * 2 ^ (emax f - 1))
+  taken-off = ap (toBits f) rounded ∙ fraction-written f false b b-lt ∙ zero-add _

@@ -1,7 +1,7 @@
 -- A finite word's count of units is the very number that `lib.Ieee` reads from its bits, with the word's sign, and the other way round; and
 -- a comparison, a sum or a difference of two values is that of their signs and sizes. Assumes nothing.
 use Prim.Native.Nat.{ℕ, zero, suc, _+_, _-_, _*_, _/_, _^_, _<_}
-use native.Mathlib.Nat.{lt-irrefl, le-of-suc-le-suc, eq-or-lt-of-le, mul-one, zero-mul, mul-pos, mul-comm, mul-assoc, mul-right-comm, mul-mul-mul-comm, add-mul, mul-sub, eq-of-mul-eq-mul-right, lt-of-mul-lt-mul-right, le-of-mul-le-mul-right, mul-le-mul-right, mul-lt-mul-of-pos-right}
+use native.Mathlib.Nat.{lt-irrefl, le-of-suc-le-suc, eq-or-lt-of-le, mul-one, zero-mul, mul-pos, mul-comm, mul-assoc, mul-right-comm, mul-mul-mul-comm, add-mul, eq-of-mul-eq-mul-right, lt-of-mul-lt-mul-right, le-of-mul-le-mul-right, mul-le-mul-right, mul-lt-mul-of-pos-right}
 use mathlib.Core.Path.{_≡_, refl, sym, ap, subst, _∙_}
 use mathlib.Core.Logic.{_⊎_, inl, inr}
 use mathlib.Core.Bool.{Bool, true, false, not, cond, _&&_}
@@ -18,6 +18,7 @@ use Rattle.format.specs.Fields.{negative, exponent, fraction}
 use Rattle.format.specs.Value.{unitsAt, units, Finite}
 use Rattle.format.proofs.Fields.{exponent-lt}
 use Rattle.format.proofs.Nan.{nan-read, inf-read}
+use Rattle.format.proofs.Order.{sub-mul}
 
 fields-value : (f : Format) (s : Bool) (x t : ℕ) → x < ones f → HasValue (ofFields f s x t) s (unitsAt f x t) (2 ^ low f)
 unfolding ofFields
@@ -138,7 +139,7 @@ same-sum f s t m n d a b c dp cp p q =
     total = add-mul m n c ∙ rw (p, q) (sym (add-mul a b d))
 
     less : (k l x y : ℕ) → k * c ≡ x * d → l * c ≡ y * d → (k - l) * c ≡ (x - y) * d
-    less k l x y e h = mul-comm (k - l) c ∙ mul-sub c k l ∙ rw (mul-comm c k, mul-comm c l, e, h, mul-comm x d, mul-comm y d) (sym (mul-sub d x y)) ∙ mul-comm d (x - y)
+    less k l x y e h = sub-mul k l c ∙ rw (e, h) (sym (sub-mul x y d))
 
 -- a sum of two values over one denominator, and a difference, whatever their signs
 pub add-signed : (f : Format) (x y : Float) (s t : Bool) (a b c : ℕ) → 0 < c → HasValue x s a c → HasValue y t b c → add f x y ≡ sum f s a t b c

@@ -1,28 +1,25 @@
 -- Every raw kernel answers words with a word: a number below 2 ^ 32. Assumes nothing.
-use Prim.Native.Nat.{ℕ, zero, suc, _+_, _-_, _*_, _/_, _%_, _^_, _≤_, _<_}
-use native.Mathlib.Nat.{mod-lt, sub-le, lt-of-le-of-lt, lt-of-lt-of-le, div-le-self, div-lt-iff-lt-mul, mul-lt-mul-of-pos-right}
+use Prim.Native.Nat.{ℕ, zero, suc, _+_, _-_, _/_, _%_, _^_, _<_}
+use native.Mathlib.Nat.{mod-lt, sub-le, lt-of-le-of-lt, div-le-self}
 use native.Mathlib.Omega.{arith}
-use mathlib.Core.Path.{sym, subst}
 use mathlib.Core.Bool.{Bool, true, false, cond, not, _&&_, _||_}
 use mathlib.Core.List.{List, [], _∷_, _++_}
 use mathlib.Core.Option.{Option, none, some, Option·getD}
 use lib.Dec.{T, lit<, ltb, eqb}
-use lib.Pow.{pow-add, pow-mono, pow-pos}
 use lib.IntN.{ℤ, pos, negsuc, natAbs}
 use lib.Signed.{ltZ}
-use lib.Ieee.{Float, binary32, fits, neg, ofBits, toBits, lt, eq, nanBits, size}
-use lib.Ieee.Digits.{size-le, size-lt}
+use lib.Ieee.{Float, binary32, fits, neg, ofBits, toBits, lt, eq, nanBits}
 use lib.Ieee.Bits.{toBits-lt, ofBits-fits}
 use lib.Ieee.Fits.{cond-fits, neg-fits, add-fits, mul-fits, div-fits, ofInt-fits}
 use mir.Syntax.{w32}
 use mir.Val.{ofZ, toZ}
 use Rattle.format.specs.Fields.{negative, magnitude, exponent, signBit}
-use Rattle.format.specs.Exponent.{places, isIntegerWord, isEvenWord}
+use Rattle.format.specs.Exponent.{isIntegerWord, isEvenWord}
 use Rattle.format.specs.Sign.{absWord, signumWord}
-use Rattle.format.specs.Parts.{belowPoint, truncWord, written, fractWord}
+use Rattle.format.specs.Parts.{belowPoint, truncWord, fractWord}
 use Rattle.format.specs.Estimates.{atLeastZero, sqrtWord}
 use Rattle.format.proofs.Fields.{magnitude-lt}
-use Rattle.format.proofs.Parts.{moved-up}
+use Rattle.format.proofs.Parts.{below-lt, fraction-top}
 use Rattle.format.proofs.Whole.{floor-fits}
 use Rattle.float.specs.Engine.{ieee}
 use Rattle.float.specs.Rounded.{isAt}
@@ -72,21 +69,8 @@ sign-word false = lit< tt
 trunc-word : (w : ℕ) → Word w → Word (truncWord binary32 w)
 trunc-word w h = either (ltb (exponent binary32 w) 127) _ _ (sign-word (negative binary32 w)) (lt-of-le-of-lt (sub-le w (belowPoint binary32 w)) h)
 
-written-lt : (n : ℕ) → n < 2 ^ 149 → written binary32 n < 2 ^ 31
-unfolding written
-written-lt n h =
-    let k = size n - 24 in
-    let few : size n ≤ 149 = size-le n 149 h in
-    let up : n < 2 ^ 24 * 2 ^ k = lt-of-lt-of-le (size-lt n) (subst (λ (m : ℕ). 2 ^ size n ≤ m) (pow-add 2 24 k) (pow-mono {i = size n} {j = 24 + k} (omega arith))) in
-    let q : n / 2 ^ k < 2 ^ 24 = div-lt-iff-lt-mul (pow-pos k) .1 up in
-    omega (arith, q, few)
-
 fract-word : (w : ℕ) → Word w → Word (fractWord binary32 w)
-fract-word w h =
-    let s = places binary32 w in
-    let b : w % 2 ^ (23 - s) * 2 ^ s < 2 ^ 23 = subst (λ (n : ℕ). n < 2 ^ 23) (moved-up w s 23) (mod-lt (w * 2 ^ s) (let z : 0 < 2 ^ 23 = omega arith in z)) in
-    let n : w % 2 ^ (23 - s) * 2 ^ s * 2 ^ 126 < 2 ^ 149 = subst (λ (m : ℕ). w % 2 ^ (23 - s) * 2 ^ s * 2 ^ 126 < m) (sym (pow-add 2 23 126)) (mul-lt-mul-of-pos-right b (pow-pos 126)) in
-    either (ltb (exponent binary32 w) 127) _ _ h (signed (negative binary32 w) _ (written-lt _ n))
+fract-word w h = either (ltb (exponent binary32 w) 127) _ _ h (signed (negative binary32 w) _ (fraction-top binary32 _ (below-lt binary32 w)))
 
 signum-word : (w : ℕ) → Word (signumWord binary32 w)
 unfolding nanBits

@@ -2,19 +2,18 @@
 use borrow.Author.Needs.{needs}
 use borrow.Author.Tests.{lt-ltb, le-ltb}
 use Prim.Native.Nat.{ℕ, _+_, _*_, _^_, _≤_, _<_}
-use native.Mathlib.Nat.{mod-lt, mod-eq-of-lt}
+use native.Mathlib.Nat.{mod-eq-of-lt}
 use native.Mathlib.Omega.{arith}
 use mathlib.Core.Path.{_≡_, sym, ap, subst, _∙_}
 use lib.Bits.{bitAnd}
-use lib.Dec.{lit<}
 use lib.Ieee.{Float, binary32, sub, ofBits, toBits}
 use Rattle.format.specs.Fields.{exponent, negative, magnitude, signBit}
 use Rattle.format.specs.Parts.{belowPoint, fractWord}
 use Rattle.format.specs.Exponent.{places}
 use Rattle.format.specs.Meaning.{IsFract}
-use Rattle.format.proofs.Parts.{moved-up}
+use Rattle.format.proofs.Parts.{moved-up, below-lt, fraction-top}
 use Rattle.format.proofs.PartsMeaning.{fract-under32}
-use Rattle.format.proofs.TakenOff.{taken-off, sign-clear}
+use Rattle.format.proofs.TakenOff.{taken-off}
 use Rattle.float.proofs.Both.{both}
 use Rattle.float.proofs.Point.{masked}
 use Rattle.float.proofs.F32.fract.Statement.{statement}
@@ -26,17 +25,15 @@ below c =
     let w = c .before .before .before .before .args .self .0 in
     masked w _ _ (c .before .exponent-clamped .ensures) (c .shl .ensures) ∙ moved-up w (places binary32 w) 23
 
-below-lt : (c : tie.After-shl) → bitAnd (c .shl .result) 0x007f_ffff < 2 ^ 23
-below-lt c =
-    let w = c .before .before .before .before .args .self .0 in
-    subst (λ (b : ℕ). b < 2 ^ 23) (sym (masked w _ _ (c .before .exponent-clamped .ensures) (c .shl .ensures))) (mod-lt _ (lit< tt))
+few : (c : tie.After-shl) → bitAnd (c .shl .result) 0x007f_ffff < 2 ^ 23
+few c = subst (λ (b : ℕ). b < 2 ^ 23) (sym (below c)) (below-lt binary32 (c .before .before .before .before .args .self .0))
 
 -- past the test on the exponent the definition is this
 past : (w x b r : ℕ) → x ≡ exponent binary32 w → 127 ≤ x → b < 2 ^ 23 → b ≡ belowPoint binary32 w * 2 ^ places binary32 w
     → r ≡ toBits binary32 (sub binary32 (ofBits binary32 (0x3f80_0000 + b)) (ofBits binary32 0x3f80_0000))
     → signBit binary32 (negative binary32 w) + magnitude binary32 r ≡ fractWord binary32 w
 past w x b r e h l d v =
-    ap (λ (n : ℕ). signBit binary32 (negative binary32 w) + n) (ap (magnitude binary32) v ∙ mod-eq-of-lt (sign-clear binary32 b l) ∙ taken-off binary32 b l)
+    ap (λ (n : ℕ). signBit binary32 (negative binary32 w) + n) (ap (magnitude binary32) (v ∙ taken-off binary32 b l) ∙ mod-eq-of-lt (fraction-top binary32 b l))
     ∙ rw (d, le-ltb (exponent binary32 w) 127 (subst (λ (y : ℕ). 127 ≤ y) e h))
 
 pub fract-spec : {M : Type 1} → statement M
@@ -50,7 +47,7 @@ fract-spec =
     (fract-under32 w))
     (λ c κs. search needs)
     (λ c κs. search needs)
-    (λ c. record { fits = omega (arith, below-lt (c .before)) })
+    (λ c. record { fits = omega (arith, few (c .before)) })
     (λ c κs. search needs)
     (λ c κs. search needs)
     (λ c κs. search needs)
@@ -60,7 +57,7 @@ fract-spec =
     let w = start .before .before .args .self .0 in
     both (IsFract binary32 w)
     (c .copysign .ensures .0
-    ∙ past w _ _ _ (start .before .extract-exponent-bits .ensures) (start .if1 .left) (below-lt at) (below at)
+    ∙ past w _ _ _ (start .before .extract-exponent-bits .ensures) (start .if1 .left) (few at) (below at)
     (c .before .of .ensures ∙ ap (λ (x : Float). toBits binary32 (sub binary32 x (ofBits binary32 0x3f80_0000))) (c .before .before .value .ensures)))
     (fract-under32 w)) in
     tie.close met
