@@ -1,5 +1,5 @@
--- Orders between whole numbers that the bounds need: which of two is less, two laws on products, and two subtractions: of products, and one that
--- need not wrap. Assumes nothing.
+-- Orders and differences of whole numbers that the bounds need: which of two is less, two laws on products, a difference times a number, and a
+-- subtraction that need not wrap. Assumes nothing.
 use Prim.Native.Nat.{ℕ, _+_, _-_, _*_, _%_, _≤_, _<_}
 use native.Mathlib.Nat.{le-of-lt, le-dest, add-sub-assoc, add-mod-left, mod-eq-of-lt, mul-comm, mul-sub}
 use native.Mathlib.Omega.{arith}

@@ -1,5 +1,5 @@
--- A number tells its word: two floats of a format, or two words, that are the same number with the same sign are the same. So a number less
--- itself is +0. Assumes nothing.
+-- A number tells its word: two floats of a format, or two words, that are the same number with the same sign are the same, and what is written
+-- for a count of units that the format holds has that count. So a number less itself is +0. Assumes nothing.
 use Prim.Native.Nat.{ℕ, suc, _+_, _-_, _*_, _/_, _^_, _<_}
 use native.Mathlib.Nat.{add-assoc, mul-right-comm, zero-mul, mul-pos, mul-div-cancel, eq-of-mul-eq-mul-right, sub-self}
 use native.Mathlib.Omega.{arith}
