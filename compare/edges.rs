@@ -19,7 +19,9 @@ use Says::{Answers, Gives, Refuses};
 const ALL: &str = "trunc fract floor ceil round abs copysign signum sqrt invsqrt inv recip exp ln powi powf atan atan_norm atan2 cos sin hypot";
 
 /// Kernels, their two words, and what is said of them.
-const EDGES: &[(&str, u32, u32, Says)] = &[
+type Row = (&'static str, u32, u32, Says);
+
+const EDGES: &[Row] = &[
     // 1: infinities and NaN, whatever else holds, and the last words before them
     (ALL, 0x7f80_0000, 0, Refuses(1)),
     (ALL, 0xff80_0000, 0, Refuses(1)),
@@ -42,18 +44,21 @@ const EDGES: &[(&str, u32, u32, Says)] = &[
     ("powi", 0x3f80_0000, 0x7f80_0000, Refuses(5)),
     ("powi", 0x3f80_0000, 0x7fc0_0000, Refuses(5)),
     ("powi", 0x3f80_0000, 0xff80_0000, Refuses(5)),
-    // 2: black, before the sign, the gate and the power
-    ("sqrt invsqrt inv recip ln powi powf", 0x0000_0000, 0, Refuses(2)),
-    ("sqrt invsqrt inv recip ln powi powf", 0x8000_0000, 0, Refuses(2)),
-    ("sqrt invsqrt inv recip ln powi powf", 0x0000_0001, 0, Refuses(2)),
-    ("sqrt invsqrt inv recip ln powi powf", 0x007f_ffff, 0, Refuses(2)),
-    ("sqrt invsqrt inv recip ln powi powf", 0x807f_ffff, 0, Refuses(2)),
+    // 2: a zero, before the gate and the power; guarded sqrt answers it, with its sign
+    ("invsqrt inv recip ln powi powf", 0x0000_0000, 0, Refuses(2)),
+    ("sqrt", 0x0000_0000, 0, Gives(0x0000_0000)),
+    ("invsqrt inv recip ln powi powf", 0x8000_0000, 0, Refuses(2)),
+    ("sqrt", 0x8000_0000, 0, Gives(0x8000_0000)),
+    // 9: no zero, and an exponent field of 0, before the sign, the gate and the power
+    ("sqrt invsqrt inv recip ln powi powf", 0x0000_0001, 0, Refuses(9)),
+    ("sqrt invsqrt inv recip ln powi powf", 0x007f_ffff, 0, Refuses(9)),
+    ("sqrt invsqrt inv recip ln powi powf", 0x807f_ffff, 0, Refuses(9)),
     ("sqrt invsqrt inv recip ln powi powf", 0x0080_0000, 0, Answers),
     ("recip powi", 0x8080_0000, 0, Answers),
     ("powf", 0x8000_0000, 0x7f7f_ffff, Refuses(2)),
-    ("powi", 0x007f_ffff, 0x0010_0001, Refuses(2)),
+    ("powi", 0x007f_ffff, 0x0010_0001, Refuses(9)),
     ("powi", 0x0000_0000, 0x8000_0000, Refuses(2)),
-    // elsewhere a black word has its IEEE value
+    // elsewhere a zero and a small number have their IEEE value
     ("trunc fract floor ceil round abs copysign signum exp atan atan_norm cos sin", 0x0000_0001, 0, Answers),
     ("trunc fract floor ceil round abs copysign signum exp atan atan_norm cos sin", 0x807f_ffff, 0, Answers),
     ("floor", 0x8000_0001, 0, Gives(0xbf80_0000)),
@@ -63,7 +68,7 @@ const EDGES: &[(&str, u32, u32, Says)] = &[
     ("atan2 hypot", 0x0000_0001, 0x3f80_0000, Answers),
     ("atan2 hypot", 0x3f80_0000, 0x807f_ffff, Answers),
     ("powf", 0x3f00_0000, 0x0000_0001, Answers),
-    // 3: a sign bit, before the gate
+    // 3: below 0, before the gate
     ("sqrt invsqrt inv ln powf", 0x8080_0000, 0, Refuses(3)),
     ("sqrt invsqrt inv ln powf", 0xbf80_0000, 0, Refuses(3)),
     ("sqrt invsqrt inv ln powf", 0xff7f_ffff, 0, Refuses(3)),
@@ -192,6 +197,38 @@ const EDGES: &[(&str, u32, u32, Says)] = &[
     ("powi", 0x4040_0000, 128, Gives(0x7f80_0000)),
 ];
 
+/// More of them. The stored list has their words behind all others, so that the frames that it had stay where they were.
+const LATER: &[Row] = &[
+    // a zero before the gate and the power, with either sign
+    ("powf", 0x0000_0000, 0x7f7f_ffff, Refuses(2)),
+    ("powf", 0x0000_0000, 0xff7f_ffff, Refuses(2)),
+    ("powf", 0x8000_0000, 0xff80_0000, Refuses(1)),
+    ("powi", 0x0000_0000, 0x0010_0001, Refuses(2)),
+    ("powi", 0x8000_0000, 0x8000_0000, Refuses(2)),
+    // a small number before the sign, the gate and the power
+    ("sqrt invsqrt inv recip ln powi powf", 0x8000_0001, 0, Refuses(9)),
+    ("sqrt invsqrt inv recip ln powi powf", 0x0040_0000, 0, Refuses(9)),
+    ("sqrt invsqrt inv recip ln powi powf", 0x8040_0000, 0, Refuses(9)),
+    ("powf", 0x007f_ffff, 0x7f7f_ffff, Refuses(9)),
+    ("powf", 0x8000_0001, 0x7f7f_ffff, Refuses(9)),
+    ("powf", 0x8000_0001, 0x7f80_0000, Refuses(1)),
+    ("powi", 0x0000_0001, 0x0010_0001, Refuses(9)),
+    ("powi", 0x0000_0001, 0x0010_0000, Refuses(9)),
+    ("powi", 0x807f_ffff, 0x8000_0000, Refuses(9)),
+    ("powi", 0x807f_ffff, 1, Refuses(9)),
+    // the second operand is judged for neither
+    ("powf", 0x3f00_0000, 0x0000_0000, Answers),
+    ("powf", 0x3f00_0000, 0x8000_0000, Answers),
+    ("powf", 0x3f00_0000, 0x807f_ffff, Answers),
+    ("copysign", 0x3f80_0000, 0x8000_0001, Gives(0xbf80_0000)),
+    // elsewhere -0 and the other end of the small numbers
+    ("trunc fract floor ceil round abs copysign signum exp atan atan_norm cos sin", 0x8000_0000, 0, Answers),
+    ("trunc fract floor ceil round abs copysign signum exp atan atan_norm cos sin", 0x8000_0001, 0, Answers),
+    ("trunc fract floor ceil round abs copysign signum exp atan atan_norm cos sin", 0x007f_ffff, 0, Answers),
+    ("atan2 hypot", 0x8000_0000, 0x3f80_0000, Answers),
+    ("atan2 hypot", 0x3f80_0000, 0x8000_0000, Answers),
+];
+
 impl Says {
     fn refusal(self) -> u64 {
         match self {
@@ -210,21 +247,30 @@ impl Says {
     }
 }
 
-/// The list with one kernel to a row.
-fn rows() -> impl Iterator<Item = (&'static str, u32, u32, Says)> {
-    EDGES.iter().flat_map(|&(names, a, b, says)| names.split(' ').map(move |name| (name, a, b, says)))
+/// A list with one kernel to a row.
+fn rows(list: &'static [Row]) -> impl Iterator<Item = Row> {
+    list.iter().flat_map(|&(names, a, b, says)| names.split(' ').map(move |name| (name, a, b, says)))
+}
+
+fn words_in(list: &'static [Row], name: &str) -> Vec<(u32, u32)> {
+    rows(list).filter(|row| row.0 == name).map(|(_, a, b, _)| (a, b)).collect()
 }
 
 /// The words that the list has for the kernel of this name.
 pub fn words_of(name: &str) -> Vec<(u32, u32)> {
-    rows().filter(|row| row.0 == name).map(|(_, a, b, _)| (a, b)).collect()
+    words_in(EDGES, name)
+}
+
+/// And those that came later.
+pub fn later_words_of(name: &str) -> Vec<(u32, u32)> {
+    words_in(LATER, name)
 }
 
 /// Tries the list on the kernels that are wanted. This program's own gates have to be those of the list.
 pub fn edges(wanted: impl Fn(&Kernel) -> bool) -> Count {
     let guarded = guarded();
     let mut count = Count::default();
-    for (name, a, b, says) in rows() {
+    for (name, a, b, says) in rows(EDGES).chain(rows(LATER)) {
         let kernel = guarded.iter().find(|k| k.name == name).expect("a kernel has this name");
         assert_eq!(kernel.refusal(a, b), says.refusal(), "gates.rs at {name} of {a:08x} {b:08x}");
         if wanted(kernel) {

@@ -1,17 +1,21 @@
-//! The specification's refusals 1 to 5, from its words and by the values of the operands. Nothing here is taken from the library,
-//! whose own table has the gates as bit patterns.
+//! The specification's refusals 1, 2, 9, 3, 4 and 5, from its words and by the values of the operands. Nothing here is taken from
+//! the library, whose own table has the gates as bit patterns.
 
 use micromath::F32;
 
-/// What the guarded form of one kernel refuses.
+/// What the guarded form of one kernel refuses, and where its answer is not the crate's.
 #[derive(Clone, Copy)]
 pub struct Gate {
     /// The second operand is a float too.
     two_floats: bool,
-    /// A black first operand is refused.
-    no_black: bool,
-    /// A sign bit on the first operand is refused.
+    /// A first operand that is a zero is refused.
+    no_zero: bool,
+    /// A first operand is refused that is no zero and nearer to it than every normal number.
+    no_small: bool,
+    /// A first operand below 0 is refused.
     no_sign: bool,
+    /// A first operand that is a zero is its own answer.
+    keeps_zero: bool,
     /// Whether two finite operands are within the operation's gate.
     within: fn(f32, f32) -> bool,
     /// The second operand is powi's power.
@@ -45,8 +49,10 @@ impl Gate {
     pub fn of(name: &str) -> Gate {
         Gate {
             two_floats: ["copysign", "powf", "atan2", "hypot"].contains(&name),
-            no_black: ["sqrt", "invsqrt", "inv", "recip", "ln", "powi", "powf"].contains(&name),
+            no_zero: ["invsqrt", "inv", "recip", "ln", "powi", "powf"].contains(&name),
+            no_small: ["sqrt", "invsqrt", "inv", "recip", "ln", "powi", "powf"].contains(&name),
             no_sign: ["sqrt", "invsqrt", "inv", "ln", "powf"].contains(&name),
+            keeps_zero: name == "sqrt",
             within: match name {
                 "trunc" | "fract" => |x, _| x.abs() < two_to(32),
                 "floor" | "ceil" => |x, _| x.abs() <= two_to(31),
@@ -64,15 +70,17 @@ impl Gate {
         }
     }
 
-    /// The first of the refusals 1 to 5 that holds of these words, or 0.
+    /// The first of the refusals that holds of these words, or 0.
     #[inline(always)]
     pub fn refusal(&self, a: u32, b: u32) -> u64 {
         let (x, y) = (f32::from_bits(a), f32::from_bits(b));
         if !x.is_finite() || self.two_floats && !y.is_finite() {
             1
-        } else if self.no_black && x.abs() < f32::MIN_POSITIVE {
+        } else if self.no_zero && x == 0.0 {
             2
-        } else if self.no_sign && x.is_sign_negative() {
+        } else if self.no_small && x.is_subnormal() {
+            9
+        } else if self.no_sign && x < 0.0 {
             3
         } else if !(self.within)(x, y) {
             4
@@ -81,5 +89,10 @@ impl Gate {
         } else {
             0
         }
+    }
+    /// Whether the answer to this first word is the word itself, and not the crate's.
+    #[inline(always)]
+    pub fn keeps(&self, a: u32) -> bool {
+        self.keeps_zero && f32::from_bits(a) == 0.0
     }
 }

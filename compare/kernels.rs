@@ -72,7 +72,8 @@ pub enum Agree {
     Exact,
     /// Bit for bit, but that where the crate gives any NaN ours is 7fc00000.
     Nan,
-    /// Behind a gate: ours refuses what the gate does, and its answers are the crate's bit for bit and no NaN.
+    /// Behind a gate: ours refuses what the gate does, and its answers are the crate's bit for bit and no NaN, but that sqrt's of a
+    /// zero is that zero.
     Guarded(Gate),
 }
 
@@ -141,6 +142,7 @@ impl Kernel {
         let theirs = (self.theirs)(a, b);
         match self.agree {
             Agree::Nan if is_nan(theirs) => Some(NAN as u64),
+            Agree::Guarded(gate) if gate.keeps(a) => Some(a as u64),
             Agree::Guarded(_) if is_nan(theirs) => None,
             _ => Some(theirs as u64),
         }

@@ -41,6 +41,12 @@ impl Lines {
         frame(op, a, b)
     }
 
+    /// A frame of this operation whose first word is a zero or a small number: it has an exponent field of 0.
+    pub fn small(&mut self, op: u32, takes: Takes) -> Vec<u8> {
+        let (a, b) = self.random.operands(takes, &self.edges);
+        frame(op, a & 0x807f_ffff, b)
+    }
+
     /// Any line: half of them are frames of known operations, and the others damaged ones, any digits, any bytes, or empty.
     pub fn any(&mut self) -> Vec<u8> {
         let line = self.known();

@@ -9,7 +9,11 @@ use crate::steps;
 use std::io;
 use std::path::Path;
 
+/// The frames that the list had at first. They stay as they are and where they are, so that a change of an answer shows as one.
 const FRAMES: usize = 26_500;
+
+/// The frames that stand behind them.
+const LATER: usize = 500;
 
 /// More short lines in a row than a program has room for the answers to, and so few bytes that one read brings them all.
 const SHORT: usize = 6_500;
@@ -118,10 +122,24 @@ fn unused(reader: &Reader) -> Vec<Vec<u8>> {
     one_operand.flat_map(|(op, _)| words.map(|(a, b)| frame(op, a, b))).collect()
 }
 
-/// Both sides of each edge of a gate and of each test within a kernel, guarded and raw.
+/// The words that are listed for a kernel, guarded and raw.
+fn listed(reader: &Reader, words: impl Fn(&str) -> Vec<(u32, u32)>) -> Vec<Vec<u8>> {
+    reader.known().into_iter().flat_map(|(op, kernel)| words(kernel.name).into_iter().map(move |(a, b)| frame(op, a, b))).collect()
+}
+
+/// Both sides of each edge of a gate and of each test within a kernel.
 fn edges(reader: &Reader) -> Vec<Vec<u8>> {
-    let words = |name| edges::words_of(name).into_iter().chain(steps::words_of(name));
-    reader.known().into_iter().flat_map(|(op, kernel)| words(kernel.name).map(move |(a, b)| frame(op, a, b))).collect()
+    listed(reader, |name| edges::words_of(name).into_iter().chain(steps::words_of(name)).collect())
+}
+
+/// The edges that came later. Zeros and small numbers, for every operation in turn, fill what is left.
+fn later(reader: &Reader) -> Vec<Vec<u8>> {
+    let mut list = listed(reader, edges::later_words_of);
+    let mut random = Lines::new(reader, 13);
+    for (op, kernel) in reader.known().into_iter().cycle().take(LATER - list.len()) {
+        list.push(random.small(op, kernel.takes));
+    }
+    list
 }
 
 /// Lines of no byte or one, in a row.
@@ -135,7 +153,7 @@ fn long(i: usize) -> Vec<u8> {
     frame(0x09, 0x4080_0000, 0).iter().cycle().take(READ + 37 * i).copied().collect()
 }
 
-/// The whole list. Random words of every operation in turn fill it.
+/// The whole list. Random words of every operation in turn fill it up to what came later.
 fn list(reader: &Reader) -> Vec<Vec<u8>> {
     let mut list = Vec::new();
     for (line, answer) in EXAMPLES {
@@ -151,6 +169,7 @@ fn list(reader: &Reader) -> Vec<Vec<u8>> {
         }
         list.push(random.of(op, kernel.takes));
     }
+    list.extend(later(reader));
     list
 }
 

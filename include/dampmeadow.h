@@ -50,7 +50,7 @@ enum dampmeadow_operation {
     DAMPMEADOW_ABS = 0x06,      /* x without its sign                 every finite x              -2.5 -> 2.5           */
     DAMPMEADOW_COPYSIGN = 0x07, /* x with the sign of the second      every finite x and second   2.5, -1 -> -2.5       */
     DAMPMEADOW_SIGNUM = 0x08,   /* 1 or -1 by x's sign bit, 0 too     every finite x              -2.5 -> -1            */
-    DAMPMEADOW_SQRT = 0x09,     /* square root                        x above 0                   4 -> 2                */
+    DAMPMEADOW_SQRT = 0x09,     /* square root, of a zero that zero   0, -0, or x above 0         4 -> 2                */
     DAMPMEADOW_INVSQRT = 0x0a,  /* 1 over the square root             x above 0                   1 -> 0.966225028      */
     DAMPMEADOW_INV = 0x0b,      /* 1/x, the quickest                  x above 0, to 2^126         1.5 -> 0.75           */
     DAMPMEADOW_RECIP = 0x0c,    /* 1/x, closer                        x not 0, |x| to 2^125       4 -> 0.250000119      */
@@ -78,23 +78,24 @@ enum dampmeadow_operation {
 
 /* ---- The refusals
  *
- * Where more than one of them holds, the first in the column "looked at" is given. Raw forms are never refused with 1 to 5.
- * 8 is given by dampmeadow_answer alone, and 10 by dampmeadow_strip alone. Later versions have more of them: take every number
- * but 0 for a refusal.
+ * Where more than one of them holds, the first in the column "looked at" is given. Raw forms are never refused with 1 to 5
+ * or with 9. 8 is given by dampmeadow_answer alone, and 10 by dampmeadow_strip alone. Later versions have more of them: take
+ * every number but 0 for a refusal.
  */
 enum dampmeadow_refusal {                  /* looked at    given when                                                 */
     DAMPMEADOW_ANSWERED = 0,               /*              there is an answer                                         */
     DAMPMEADOW_NOT_FINITE = 1,             /* third        an operand is an infinity or a NaN                         */
-    DAMPMEADOW_BLACK = 2,                  /* fourth       the first operand is 0 or too small to be normal: sqrt,    */
-                                           /*              invsqrt, inv, recip, ln, powi, powf                        */
-    DAMPMEADOW_NEGATIVE = 3,               /* fifth        the first operand's sign bit is set: sqrt, invsqrt, inv,   */
-                                           /*              ln, powf                                                   */
-    DAMPMEADOW_OUTSIDE = 4,                /* sixth        outside what the operation takes, as listed above          */
+    DAMPMEADOW_ZERO = 2,                   /* fourth       the first operand is 0 or -0: invsqrt, inv, recip, ln,     */
+                                           /*              powi, powf                                                 */
+    DAMPMEADOW_NEGATIVE = 3,               /* sixth        the first operand is below 0: sqrt, invsqrt, inv, ln, powf */
+    DAMPMEADOW_OUTSIDE = 4,                /* seventh      outside what the operation takes, as listed above          */
     DAMPMEADOW_POWER_OUTSIDE = 5,          /* last         powi's power is below -1048576 or above 1048576            */
     DAMPMEADOW_NO_SUCH_OPERATION = 6,      /* second       no operation has this number                               */
     DAMPMEADOW_MALFORMED = 7,              /* first        the line is no frame; or, after 6 and before 1, the second */
                                            /*              word is not used by this operation and is not 0            */
     DAMPMEADOW_NO_ROOM = 8,                /* before all   the space for the answer has fewer than 11 bytes           */
+    DAMPMEADOW_SMALL = 9,                  /* fifth        the first operand is not 0 and too small to be normal:     */
+                                           /*              sqrt, invsqrt, inv, recip, ln, powi, powf                  */
     DAMPMEADOW_LENGTHS = 10                /* before 6     the lists of a strip have not all one length               */
 };
 
@@ -109,6 +110,7 @@ enum dampmeadow_refusal {                  /* looked at    given when           
  *
  *   dampmeadow_words(DAMPMEADOW_SQRT, 0x40800000, 0) == 0x40000000                      sqrt of 4 is 2
  *   dampmeadow_words(DAMPMEADOW_SQRT, 0xbf800000, 0) == 0x300000000                     sqrt of -1: refusal 3
+ *   dampmeadow_words(DAMPMEADOW_SQRT, 0x80000000, 0) == 0x80000000                      sqrt of -0 is -0
  *   dampmeadow_words(DAMPMEADOW_RAW + DAMPMEADOW_SQRT, 0x80000000, 0) == 0x5fc00000     what micromath gives for -0
  */
 uint64_t dampmeadow_words(uint32_t op, uint32_t a, uint32_t b);
@@ -133,7 +135,7 @@ uint64_t dampmeadow_words(uint32_t op, uint32_t a, uint32_t b);
  *   const uint32_t first[3] = {0x40800000, 0xbf800000, 0x00000000};
  *   uint32_t answers[3], refusals[3];
  *   dampmeadow_strip(DAMPMEADOW_SQRT, first, 3, first, 3, answers, 3, refusals, 3) == 0
- *                                       sqrt of 4, -1 and 0: answers is 0x40000000, 0, 0, and refusals is 0, 3, 2
+ *                                       sqrt of 4, -1 and 0: answers is 0x40000000, 0, 0, and refusals is 0, 3, 0
  */
 uint32_t dampmeadow_strip(uint32_t op, const uint32_t *first, size_t first_count, const uint32_t *second, size_t second_count,
                           uint32_t *answers, size_t answers_count, uint32_t *refusals, size_t refusals_count);

@@ -34,16 +34,19 @@ static void parts(const char *what, uint32_t a, uint32_t refusal, uint32_t whole
     hold(what, r, rest);
 }
 
+/* A place of a strip before the call: 99 is no refusal. */
+#define UNTOUCHED 0x6300000063
+
 /* A strip over 4, -1 and 0: what is returned, and then each place, refusal above word. `lent` is how many places of each list
  * are lent. Without a second list the first is lent twice, and without a list of what is due each place has to stay. */
 static void strip(const char *what, uint32_t op, const uint32_t *second, const size_t *lent, uint32_t refusal,
                   const uint64_t *due)
 {
     const uint32_t first[3] = {0x40800000, 0xbf800000, 0x00000000};
-    uint32_t answers[3] = {9, 9, 9}, refusals[3] = {9, 9, 9};
+    uint32_t answers[3] = {99, 99, 99}, refusals[3] = {99, 99, 99};
     if (!second) second = first;
     hold(what, dampmeadow_strip(op, first, lent[0], second, lent[1], answers, lent[2], refusals, lent[3]), refusal);
-    for (int i = 0; i < 3; i++) hold(what, (uint64_t)refusals[i] << 32 | answers[i], due ? due[i] : 0x900000009);
+    for (int i = 0; i < 3; i++) hold(what, (uint64_t)refusals[i] << 32 | answers[i], due ? due[i] : UNTOUCHED);
 }
 
 /* A line of text into a space of 16 bytes, of which `room` are lent: the refusal, the answer, and the bytes that stay. */
@@ -73,6 +76,8 @@ int main(void)
     gives("signum -2.5", DAMPMEADOW_SIGNUM, -2.5f, 0, -1.0f);
     gives("sqrt 4", DAMPMEADOW_SQRT, 4.0f, 0, 2.0f);
     gives("sqrt 2", DAMPMEADOW_SQRT, 2.0f, 0, 1.5f);
+    gives("sqrt 0", DAMPMEADOW_SQRT, 0.0f, 0, 0.0f);
+    gives("sqrt -0", DAMPMEADOW_SQRT, -0.0f, 0, -0.0f);
     gives("invsqrt 1", DAMPMEADOW_INVSQRT, 1.0f, 0, 0.966225028f);
     gives("inv 1.5", DAMPMEADOW_INV, 1.5f, 0, 0.75f);
     gives("recip 4", DAMPMEADOW_RECIP, 4.0f, 0, 0.250000119f);
@@ -90,8 +95,12 @@ int main(void)
     gives("hypot 3 4", DAMPMEADOW_HYPOT, 3.0f, dampmeadow_bits(4.0f), 5.125f);
 
     refuses("exp of a NaN", DAMPMEADOW_EXP, nan, 0, DAMPMEADOW_NOT_FINITE);
-    refuses("ln 0", DAMPMEADOW_LN, 0, 0, DAMPMEADOW_BLACK);
-    refuses("ln, the largest that is not normal", DAMPMEADOW_LN, 0x007fffff, 0, DAMPMEADOW_BLACK);
+    refuses("ln 0", DAMPMEADOW_LN, 0, 0, DAMPMEADOW_ZERO);
+    refuses("inv -0", DAMPMEADOW_INV, 0x80000000, 0, DAMPMEADOW_ZERO);
+    refuses("ln, the largest that is not normal", DAMPMEADOW_LN, 0x007fffff, 0, DAMPMEADOW_SMALL);
+    refuses("sqrt, the smallest", DAMPMEADOW_SQRT, 0x00000001, 0, DAMPMEADOW_SMALL);
+    refuses("sqrt, the smallest below 0", DAMPMEADOW_SQRT, 0x80000001, 0, DAMPMEADOW_SMALL);
+    refuses("powi, the smallest to 1048577", DAMPMEADOW_POWI, 0x00000001, 1048577, DAMPMEADOW_SMALL);
     refuses("sqrt -1", DAMPMEADOW_SQRT, 0xbf800000, 0, DAMPMEADOW_NEGATIVE);
     refuses("atan2 0 0", DAMPMEADOW_ATAN2, 0, 0, DAMPMEADOW_OUTSIDE);
     refuses("hypot 0 0", DAMPMEADOW_HYPOT, 0, 0, DAMPMEADOW_OUTSIDE);
@@ -117,7 +126,7 @@ int main(void)
 
     const size_t all[4] = {3, 3, 3, 3}, two[4] = {2, 2, 2, 2}, none[4] = {0, 0, 0, 0};
     const uint32_t powers[3] = {(uint32_t)-1, (uint32_t)-1048577, 1};
-    const uint64_t roots[3] = {0x40000000, 0x300000000, 0x200000000}, fewer[3] = {0x40000000, 0x300000000, 0x900000009};
+    const uint64_t roots[3] = {0x40000000, 0x300000000, 0}, fewer[3] = {0x40000000, 0x300000000, UNTOUCHED};
     const uint64_t raised[3] = {0x3e800000, 0x500000000, 0x200000000}, bare[3] = {0x40000000, nan, 0x1fc00000};
     strip("a strip of sqrt", DAMPMEADOW_SQRT, NULL, all, DAMPMEADOW_ANSWERED, roots);
     strip("a strip of sqrt, beside a second list", DAMPMEADOW_SQRT, powers, all, DAMPMEADOW_ANSWERED, roots);

@@ -46,13 +46,13 @@ std::vector<uint32_t> words(const std::vector<float> &numbers)
     return list;
 }
 
-// A strip into lists of as many places as are due. They hold refusal 9 and -9 before, and so does the place after the last.
+// A strip into lists of as many places as are due. They hold refusal 99 and -9 before, and so does the place after the last.
 void strip(const char *what, uint32_t op, const std::vector<float> &x, const std::vector<float> &y, uint32_t refusal, std::vector<Answer> due)
 {
     const std::vector<uint32_t> first = words(x), second = words(y);
     const std::size_t places = due.size();
-    due.push_back({9, -9.0f});
-    std::vector<uint32_t> answers(due.size(), dampmeadow_bits(-9.0f)), refusals(due.size(), 9);
+    due.push_back({99, -9.0f});
+    std::vector<uint32_t> answers(due.size(), dampmeadow_bits(-9.0f)), refusals(due.size(), 99);
     const uint32_t got = dampmeadow_strip(op, first.data(), x.size(), second.data(), y.size(), answers.data(), places, refusals.data(), places);
     hold(what, {got, 0.0f}, {refusal, 0.0f});
     for (std::size_t i = 0; i < due.size(); i++) hold(what, {refusals[i], dampmeadow_float(answers[i])}, due[i]);
@@ -86,11 +86,12 @@ int main()
     parts("the parts of -2.5", -2.5f, DAMPMEADOW_ANSWERED, -2.0f, -0.5f);
     parts("the parts of 1e10", 1e10f, DAMPMEADOW_OUTSIDE, 0.0f, 0.0f);
     const std::vector<float> film = {4.0f, -1.0f, 0.0f};
-    strip("a strip of sqrt", DAMPMEADOW_SQRT, film, film, DAMPMEADOW_ANSWERED, {{0, 2.0f}, {DAMPMEADOW_NEGATIVE, 0.0f}, {DAMPMEADOW_BLACK, 0.0f}});
+    strip("a strip of sqrt", DAMPMEADOW_SQRT, film, film, DAMPMEADOW_ANSWERED, {{0, 2.0f}, {DAMPMEADOW_NEGATIVE, 0.0f}, {0, 0.0f}});
+    strip("a strip of ln", DAMPMEADOW_LN, {0.0f, 1e-40f, -1e-40f}, film, DAMPMEADOW_ANSWERED, {{DAMPMEADOW_ZERO, 0.0f}, {DAMPMEADOW_SMALL, 0.0f}, {DAMPMEADOW_SMALL, 0.0f}});
     strip("a strip of hypot", DAMPMEADOW_HYPOT, {3.0f, 0.0f}, {4.0f, 0.0f}, DAMPMEADOW_ANSWERED, {{0, 5.125f}, {DAMPMEADOW_OUTSIDE, 0.0f}});
     strip("a strip of no places", DAMPMEADOW_HYPOT, {}, {}, DAMPMEADOW_ANSWERED, {});
-    strip("a strip with a short second list", DAMPMEADOW_SQRT, {4.0f}, {}, DAMPMEADOW_LENGTHS, {{9, -9.0f}});
-    strip("a strip of operation 16", 0x16, {4.0f}, {4.0f}, DAMPMEADOW_NO_SUCH_OPERATION, {{9, -9.0f}});
+    strip("a strip with a short second list", DAMPMEADOW_SQRT, {4.0f}, {}, DAMPMEADOW_LENGTHS, {{99, -9.0f}});
+    strip("a strip of operation 16", 0x16, {4.0f}, {4.0f}, DAMPMEADOW_NO_SUCH_OPERATION, {{99, -9.0f}});
     strip("a strip of operation 16 and no places", 0x16, {}, {}, DAMPMEADOW_NO_SUCH_OPERATION, {});
     line("094080000000000000", "0040000000");
     line("a frame is eighteen digits", "0700000000");

@@ -155,9 +155,9 @@ static int write_picture(const char *folder, const char *name, int colour)
 int main(int argc, char **argv)
 {
     static const char *const why[REFUSALS + 1] = {
-        "answered", "a difference is not finite", "the first operand is 0", "the first operand is negative",
+        "answered", "a difference is not finite", "the first operand is 0", "the first operand is below 0",
         "outside what the operation takes: both differences are 0", "the power is out of range", "no such operation",
-        "malformed", "too little space", "not in use", "lists of different lengths", "not known to this program",
+        "malformed", "too little space", "the first operand is too small", "lists of different lengths", "not known to this program",
     };
     int count[REFUSALS + 1] = {0}, edges = 0, pixels = 0, found = 0, hit[DUST] = {0}, astray = 0;
     if (argc != 2) { fprintf(stderr, "specks: wants the folder for its pictures\n"); return 2; }

@@ -91,13 +91,14 @@ pub fn signum(x: f32) -> Result<f32, Refusal> {
     guarded(Operation::Signum, x.to_bits(), 0)
 }
 
-/// The square root, some 6 percent too large at most. Takes x above 0.
+/// The square root, some 6 percent too large at most; of 0 and -0 that same zero. Takes these and x above 0.
 ///
 /// ```
 /// use dampmeadow::{sqrt, Refusal};
 /// assert_eq!(sqrt(4.0), Ok(2.0));
 /// assert_eq!(sqrt(2.0), Ok(1.5));
-/// assert_eq!(sqrt(0.0), Err(Refusal::Black));
+/// assert_eq!(sqrt(-0.0).map(f32::to_bits), Ok(0x8000_0000));
+/// assert_eq!(sqrt(1.0e-40), Err(Refusal::Small));
 /// ```
 pub fn sqrt(x: f32) -> Result<f32, Refusal> {
     guarded(Operation::Sqrt, x.to_bits(), 0)
@@ -130,7 +131,7 @@ pub fn inv(x: f32) -> Result<f32, Refusal> {
 /// ```
 /// use dampmeadow::{recip, Refusal};
 /// assert_eq!(recip(4.0), Ok(0.250000119));
-/// assert_eq!(recip(0.0), Err(Refusal::Black));
+/// assert_eq!(recip(0.0), Err(Refusal::Zero));
 /// ```
 pub fn recip(x: f32) -> Result<f32, Refusal> {
     guarded(Operation::Recip, x.to_bits(), 0)

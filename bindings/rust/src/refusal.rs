@@ -2,7 +2,7 @@ use core::error::Error;
 use core::fmt::{Display, Formatter, Result};
 
 /// Why there is no answer. Where more than one holds, the first of these is given: 8; 7 for a line that is no frame; 10; 6; 7
-/// for a second word that should be 0; then 1, 2, 3, 4, 5. Later versions of the library have more of them, so a `match` ends
+/// for a second word that should be 0; then 1, 2, 9, 3, 4, 5. Later versions of the library have more of them, so a `match` ends
 /// with `_`. One displays its number and what it says.
 ///
 /// ```
@@ -10,16 +10,16 @@ use core::fmt::{Display, Formatter, Result};
 /// let refusal = sqrt(-1.0).unwrap_err();
 /// assert_eq!(refusal, Refusal::Negative);
 /// assert_eq!(refusal.number(), 3);
-/// assert_eq!(refusal.to_string(), "refusal 3: the first operand's sign bit is set");
+/// assert_eq!(refusal.to_string(), "refusal 3: the first operand is below 0");
 /// ```
 #[derive(Clone, Copy, Debug, PartialEq, Eq, Hash)]
 #[non_exhaustive]
 pub enum Refusal {
     /// 1: an operand is an infinity or a NaN.
     NotFinite,
-    /// 2: the first operand is 0, or too small to be normal: sqrt, invsqrt, inv, recip, ln, powi, powf.
-    Black,
-    /// 3: the first operand's sign bit is set: sqrt, invsqrt, inv, ln, powf.
+    /// 2: the first operand is 0 or -0: invsqrt, inv, recip, ln, powi, powf.
+    Zero,
+    /// 3: the first operand is below 0: sqrt, invsqrt, inv, ln, powf.
     Negative,
     /// 4: outside what the operation takes.
     Outside,
@@ -31,6 +31,8 @@ pub enum Refusal {
     Malformed,
     /// 8: the space for an answer has fewer than eleven bytes.
     NoRoom,
+    /// 9: the first operand is not 0 and too small to be normal: sqrt, invsqrt, inv, recip, ln, powi, powf. It is judged before 3.
+    Small,
     /// 10: the lists of a [`strip`](crate::strip) have not all one length.
     Lengths,
     /// One that this version does not know, by its number. It is never one of those above.
@@ -39,16 +41,17 @@ pub enum Refusal {
 }
 
 impl Refusal {
-    /// Every refusal that this version knows, in the order of their numbers. There is none of number 9.
+    /// Every refusal that this version knows, in the order of their numbers.
     pub const ALL: &'static [Refusal] = &[
         Refusal::NotFinite,
-        Refusal::Black,
+        Refusal::Zero,
         Refusal::Negative,
         Refusal::Outside,
         Refusal::PowerOutside,
         Refusal::NoSuchOperation,
         Refusal::Malformed,
         Refusal::NoRoom,
+        Refusal::Small,
         Refusal::Lengths,
     ];
 
@@ -56,13 +59,14 @@ impl Refusal {
     pub const fn number(self) -> u32 {
         match self {
             Refusal::NotFinite => 1,
-            Refusal::Black => 2,
+            Refusal::Zero => 2,
             Refusal::Negative => 3,
             Refusal::Outside => 4,
             Refusal::PowerOutside => 5,
             Refusal::NoSuchOperation => 6,
             Refusal::Malformed => 7,
             Refusal::NoRoom => 8,
+            Refusal::Small => 9,
             Refusal::Lengths => 10,
             Refusal::Unknown { number } => number,
         }
@@ -89,13 +93,14 @@ impl Display for Refusal {
     fn fmt(&self, out: &mut Formatter) -> Result {
         out.pad(match self {
             Refusal::NotFinite => "refusal 1: an operand is an infinity or a NaN",
-            Refusal::Black => "refusal 2: the first operand is 0, or too small to be normal",
-            Refusal::Negative => "refusal 3: the first operand's sign bit is set",
+            Refusal::Zero => "refusal 2: the first operand is 0 or -0",
+            Refusal::Negative => "refusal 3: the first operand is below 0",
             Refusal::Outside => "refusal 4: outside what the operation takes",
             Refusal::PowerOutside => "refusal 5: powi's power is below -1048576 or above 1048576",
             Refusal::NoSuchOperation => "refusal 6: no operation has this number",
             Refusal::Malformed => "refusal 7: the line is no frame, or its second word should be 0",
             Refusal::NoRoom => "refusal 8: the space for the answer has fewer than 11 bytes",
+            Refusal::Small => "refusal 9: the first operand is not 0 and too small to be normal",
             Refusal::Lengths => "refusal 10: the lists have not all one length",
             Refusal::Unknown { number } => return write!(out, "refusal {number}: not known to this version of the binding"),
         })

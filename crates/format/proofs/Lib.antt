@@ -4,6 +4,7 @@ pub mod Masks
 pub mod Nan
 pub mod Sign
 pub mod Value
+pub mod Classes
 pub mod Cast
 pub mod Exponent
 pub mod Parts

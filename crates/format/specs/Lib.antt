@@ -3,6 +3,7 @@ pub mod Fields
 pub mod Sign
 pub mod Exponent
 pub mod Value
+pub mod Classes
 pub mod Parts
 pub mod Whole
 pub mod Meaning

@@ -6,7 +6,7 @@ ghost use Rattle.frame.specs.Words.{packed, kernelNumber, shapeOf, words
 use guard::Answer;
 
 // An operation that is not there is refused with 6, a second word that the operation does not use
-// and that is not zero with 7, and a guarded operation with 1 to 5.
+// and that is not zero with 7, and a guarded operation with 1 to 5 or 9.
 pub fn answer(op: u32, a: u32, b: u32) -> u64
     ensures { λ r. ⌜ r ≡ wordsOf op a b ⌝ }
 {

@@ -66,13 +66,15 @@ ends =
     ∷ at opRound 0x3eff_fffe 0x0000_0000 0
     ∷ at opRound 0x3f00_0000 0x0000_0000 0
     ∷ at opSqrt 0x0080_0000 0x0000_0000 0
-    ∷ at opSqrt 0x007f_ffff 0x0000_0000 2
-    ∷ at opSqrt 0x8000_0000 0x0000_0000 2
+    ∷ at opSqrt 0x007f_ffff 0x0000_0000 9
+    ∷ at opSqrt 0x0000_0000 0x0000_0000 0
+    ∷ at opSqrt 0x8000_0000 0x0000_0000 0
+    ∷ at opSqrt 0x807f_ffff 0x0000_0000 9
     ∷ at opSqrt 0x8080_0000 0x0000_0000 3
     ∷ at opSqrt 0x7f7f_ffff 0x0000_0000 0
     ∷ at opSqrt 0x7f80_0000 0x0000_0000 1
     ∷ at opInvsqrt 0x0080_0000 0x0000_0000 0
-    ∷ at opInvsqrt 0x007f_ffff 0x0000_0000 2
+    ∷ at opInvsqrt 0x007f_ffff 0x0000_0000 9
     ∷ at opInv 0x7e80_0000 0x0000_0000 0
     ∷ at opInv 0x7e80_0001 0x0000_0000 4
     ∷ at opInv 0xfe80_0001 0x0000_0000 3
@@ -86,14 +88,14 @@ ends =
     ∷ at opExp 0x42b0_0001 0x0000_0000 4
     ∷ at opExp 0x8000_0000 0x0000_0000 0
     ∷ at opLn 0x0080_0000 0x0000_0000 0
-    ∷ at opLn 0x007f_ffff 0x0000_0000 2
+    ∷ at opLn 0x007f_ffff 0x0000_0000 9
     ∷ at opPowi 0x3f80_0000 0x0010_0000 0
     ∷ at opPowi 0x3f80_0000 0x0010_0001 5
     ∷ at opPowi 0x3f80_0000 0xfff0_0000 0
     ∷ at opPowi 0x3f80_0000 0xffef_ffff 5
     ∷ at opPowi 0x3f80_0000 0x7f80_0000 5
     ∷ at opPowi 0x3f80_0000 0x8000_0000 5
-    ∷ at opPowi 0x007f_ffff 0x0000_0000 2
+    ∷ at opPowi 0x007f_ffff 0x0000_0000 9
     ∷ at opPowf 0x4000_0000 0x42fd_e464 0
     ∷ at opPowf 0x4000_0000 0x42fd_e465 4
     ∷ at opPowf 0x4000_0000 0xc2fb_01cb 0
@@ -140,11 +142,20 @@ lists =
     ++ each (opCopysign ∷ opPowf ∷ opAtan2 ∷ opHypot ∷ []) 0x3f80_0000 0x7f80_0000 1
     ++ each (opCopysign ∷ opAtan2 ∷ opHypot ∷ opPowf ∷ []) 0x0000_0000 0x7f80_0000 1
     ++ each (opTrunc ∷ opFract ∷ opFloor ∷ opCeil ∷ opRound ∷ opAbs ∷ opSignum ∷ opSqrt ∷ opInvsqrt ∷ opInv ∷ opRecip ∷ opExp ∷ opLn ∷ opAtan ∷ opCos ∷ opSin ∷ []) 0x4000_0000 0xff80_0000 0
-    -- 2: a black first operand
-    ++ each (opSqrt ∷ opInvsqrt ∷ opInv ∷ opRecip ∷ opLn ∷ opPowi ∷ opPowf ∷ []) 0x0000_0000 0x0000_0000 2
-    ++ each (opSqrt ∷ opInvsqrt ∷ opInv ∷ opRecip ∷ opLn ∷ opPowi ∷ opPowf ∷ []) 0x807f_ffff 0x7f7f_ffff 2
-    ++ each (opTrunc ∷ opFract ∷ opFloor ∷ opCeil ∷ opRound ∷ opAbs ∷ opCopysign ∷ opSignum ∷ opExp ∷ opAtan ∷ opAtan2 ∷ opCos ∷ opSin ∷ opHypot ∷ []) 0x0000_0000 0x3f80_0000 0
-    -- 3: a sign bit on the first operand
+    -- 2: a zero, before the gate and the power; sqrt answers it, with either sign
+    ++ each (opInvsqrt ∷ opInv ∷ opRecip ∷ opLn ∷ opPowi ∷ opPowf ∷ []) 0x0000_0000 0x0000_0000 2
+    ++ each (opInvsqrt ∷ opInv ∷ opRecip ∷ opLn ∷ opPowi ∷ opPowf ∷ []) 0x8000_0000 0x7f7f_ffff 2
+    ++ each (opTrunc ∷ opFract ∷ opFloor ∷ opCeil ∷ opRound ∷ opAbs ∷ opCopysign ∷ opSignum ∷ opSqrt ∷ opExp ∷ opAtan ∷ opAtan2 ∷ opCos ∷ opSin ∷ opHypot ∷ []) 0x0000_0000 0x3f80_0000 0
+    ++ each (opTrunc ∷ opFract ∷ opFloor ∷ opCeil ∷ opRound ∷ opAbs ∷ opCopysign ∷ opSignum ∷ opSqrt ∷ opExp ∷ opAtan ∷ opAtan2 ∷ opCos ∷ opSin ∷ opHypot ∷ []) 0x8000_0000 0x3f80_0000 0
+    -- 9: a small first operand, from the words beside the zeros to those beside the normal numbers, before the sign, the gate and the power
+    ++ each (opSqrt ∷ opInvsqrt ∷ opInv ∷ opRecip ∷ opLn ∷ opPowi ∷ opPowf ∷ []) 0x0000_0001 0x0000_0000 9
+    ++ each (opSqrt ∷ opInvsqrt ∷ opInv ∷ opRecip ∷ opLn ∷ opPowi ∷ opPowf ∷ []) 0x007f_ffff 0x0010_0001 9
+    ++ each (opSqrt ∷ opInvsqrt ∷ opInv ∷ opRecip ∷ opLn ∷ opPowi ∷ opPowf ∷ []) 0x8000_0001 0x0000_0000 9
+    ++ each (opSqrt ∷ opInvsqrt ∷ opInv ∷ opRecip ∷ opLn ∷ opPowi ∷ opPowf ∷ []) 0x807f_ffff 0x7f7f_ffff 9
+    ++ each (opSqrt ∷ opInvsqrt ∷ opInv ∷ opRecip ∷ opLn ∷ opPowi ∷ opPowf ∷ []) 0x0080_0000 0x0000_0001 0
+    ++ each (opRecip ∷ opPowi ∷ []) 0x8080_0000 0x0000_0001 0
+    ++ each (opTrunc ∷ opFract ∷ opFloor ∷ opCeil ∷ opRound ∷ opAbs ∷ opCopysign ∷ opSignum ∷ opExp ∷ opAtan ∷ opAtan2 ∷ opCos ∷ opSin ∷ opHypot ∷ []) 0x807f_ffff 0x3f80_0000 0
+    -- 3: a first operand below 0
     ++ each (opSqrt ∷ opInvsqrt ∷ opInv ∷ opLn ∷ opPowf ∷ []) 0x8080_0000 0x0000_0000 3
     ++ each (opTrunc ∷ opFract ∷ opFloor ∷ opCeil ∷ opRound ∷ opAbs ∷ opCopysign ∷ opSignum ∷ opRecip ∷ opExp ∷ opPowi ∷ opAtan ∷ opAtan2 ∷ opCos ∷ opSin ∷ opHypot ∷ []) 0xbf80_0000 0x0000_0001 0
     -- 4: no gate

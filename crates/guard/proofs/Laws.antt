@@ -3,15 +3,19 @@
 use Prim.Native.Nat.{ℕ, zero, suc, _^_, _<_}
 use native.Mathlib.Omega.{arith}
 use mathlib.Core.Path.{_≡_, refl, sym, ap, _∙_}
-use mathlib.Core.Bool.{Bool, true, false, cond}
+use mathlib.Core.Bool.{Bool, true, false, cond, _&&_}
 use mathlib.Core.List.{List, _∷_, _++_}
-use borrow.Author.Tests.{ne-eqb}
+use borrow.Author.Tests.{ne-eqb, eqb-true}
 use lib.Dec.{eqb}
 use lib.Ieee.{Float, binary32, isNan, nanBits, ofBits}
 use lib.Ieee.Bits.{nanBits-is}
+use Rattle.format.specs.Fields.{magnitude}
+use Rattle.format.specs.Classes.{isZero}
+use Rattle.format.proofs.Classes.{zero-ends, zero-not-small, zero-not-below}
 use Rattle.raw.specs.Raw.{Kernel, none, one, two, kernels, kernelOf, operandsOf, rawOf}
 use Rattle.guard.specs.declared.Guarded.the-variants.{Number}
 use Rattle.guard.specs.declared.Answer.{Answer}
+use Rattle.guard.specs.Operations.{opSqrt}
 use Rattle.guard.specs.Gates.{gateOf, judged}
 use Rattle.guard.specs.Refusals.{Refusal, refusals, holds, refusalBehind, refusalOf}
 use Rattle.guard.specs.Guarded.{given, refusalGiven, wordOf, secondOf, Answered, Gives, valueOf, Guards, refusalByNumber, GuardsByNumber}
@@ -44,9 +48,14 @@ module _ (n w : ℕ) (r : Answer) (g : Gives n w r) where
 -- ---- every operation
 
 module _ (op a b : ℕ) (r : Answer) (g : Guards op a b r) where
-  -- an answered call's value is the raw word
-  pub value-is-raw : Answered r → wordOf r ≡ rawOf (kernelOf op) a b
-  value-is-raw h = answered-word g h
+  -- an answered call's value is the raw word, but for sqrt's of a zero
+  pub value-is-raw : (op ≡ opSqrt → isZero binary32 a ≡ true → ⊥) → Answered r → wordOf r ≡ rawOf (kernelOf op) a b
+  value-is-raw n h = answered-word g h ∙ ap (λ (t : Bool). cond t a (rawOf (kernelOf op) a b)) (not-both (eqb op opSqrt) (isZero binary32 a) (λ e z. n (eqb-true op opSqrt e) z))
+    where
+      not-both : (s t : Bool) → (s ≡ true → t ≡ true → ⊥) → (s && t) ≡ false
+      not-both true true k = absurd (k refl refl)
+      not-both true false k = refl
+      not-both false t k = refl
 
   -- the refusal is the first of the table that holds, and there is an answer exactly where none does
   pub refusal-is-first : (before : List Refusal) (f : Refusal) (after : List Refusal) → refusals (gateOf op) ≡ before ++ (f ∷ after) → NoneHolds before op a b → holds f op a b ≡ true
@@ -62,6 +71,14 @@ module _ (op a b : ℕ) (r : Answer) (g : Guards op a b r) where
   -- no answered value is a NaN
   pub never-a-nan : a < 2 ^ 32 → b < 2 ^ 32 → (x : Float) → r .result ≡ Number x → isNan x ≡ false
   never-a-nan h k = never-a-nan-of (refusalOf op a b) (valueOf op a b) r g (no-nan op a b h k)
+
+-- guarded sqrt of a zero is answered with that zero, whichever sign it has
+zero-passes : (a b : ℕ) → isZero binary32 a ≡ true → NoneHolds (refusals (gateOf opSqrt)) opSqrt a b
+unfolding judged
+zero-passes a b z = (zero-ends binary32 a z, (refl, (refl, (zero-not-small binary32 a z, (zero-not-below binary32 a z, (rw (eqb-true (magnitude binary32 a) 0 z), (refl, tt)))))))
+
+pub zero-is-its-own-root : (a b : ℕ) (r : Answer) → isZero binary32 a ≡ true → Guards opSqrt a b r → Answered r × (wordOf r ≡ a)
+zero-is-its-own-root a b r z g = let h = none-answered g (none-given opSqrt a b (zero-passes a b z)) in (h, answered-word g h ∙ rw z)
 
 -- ---- by number
 
@@ -116,10 +133,10 @@ ignored =
     ⨟ (λ e a b. not-one 0 e)
     ⨟ done
 
-one-word : (k : Kernel) (a b : ℕ) → operandsOf k ≡ 1 → rawOf k a b ≡ rawOf k a 0
+pub one-word : (k : Kernel) (a b : ℕ) → operandsOf k ≡ 1 → rawOf k a b ≡ rawOf k a 0
 one-word none a b e = refl
 one-word (one f) a b e = refl
 one-word (two f) a b e = not-one 0 e
 
 pub second-word-is-ignored : (op a b : ℕ) → operandsOf (kernelOf op) ≡ 1 → (refusalOf op a b ≡ refusalOf op a 0) × (valueOf op a b ≡ valueOf op a 0)
-second-word-is-ignored op a b e = (of-each Ignores nothing ignored op e a b, one-word (kernelOf op) a b e)
+second-word-is-ignored op a b e = (of-each Ignores nothing ignored op e a b, ap (cond (eqb op opSqrt && isZero binary32 a) a) (one-word (kernelOf op) a b e))

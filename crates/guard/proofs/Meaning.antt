@@ -1,9 +1,12 @@
 -- An answered guarded call has its meaning or its bound, with no side condition left: the gate has seen to it. Assumes nothing.
 use Prim.Native.Nat.{ℕ, _^_, _<_}
-use mathlib.Core.Path.{refl}
+use mathlib.Core.Path.{_≡_, refl}
+use mathlib.Core.Bool.{Bool, true, false, cond}
 use lib.Ieee.{binary32}
+use Rattle.format.specs.Classes.{isZero}
 use Rattle.format.specs.Meaning.{IsTrunc, IsFract, IsFloor, IsCeil, IsRound}
-use Rattle.format.specs.Estimates.{Normal, SqrtBound, InvBound, InvsqrtBound, InvsqrtTight}
+use Rattle.format.specs.Estimates.{sqrtWord, Normal, SqrtBound, InvBound, InvsqrtBound, InvsqrtTight}
+use Rattle.format.proofs.Classes.{normal-of, zero-bound}
 use Rattle.format.proofs.PartsMeaning.{trunc-under32, fract-under32}
 use Rattle.format.proofs.FloorMeaning.{floor-is, ceil-is}
 use Rattle.format.proofs.RoundMeaning.{round-is-nearest}
@@ -15,7 +18,7 @@ use Rattle.guard.specs.Operations.{opTrunc, opFract, opFloor, opCeil, op
 use Rattle.guard.specs.Gates.{judged}
 use Rattle.guard.specs.Guarded.{wordOf, Answered, Guards}
 use Rattle.guard.proofs.Gives.{answered-none, answered-word}
-use Rattle.guard.proofs.Open.{Open, opened, is-normal}
+use Rattle.guard.proofs.Open.{Open, opened}
 use Rattle.guard.proofs.NoNan.{under32, to31, under23, invertible}
 
 -- the gate is open to the operands of an answered call
@@ -45,14 +48,16 @@ module _ (a b : ℕ) (r : Answer) where
 
   -- ---- the estimates
 
-  sqrt-normal : Guards opSqrt a b r → Answered r → Normal binary32 a
-  sqrt-normal g h = let o = open-to opSqrt a b r g h in is-normal opSqrt a b refl o refl
-
+  -- a zero, which is its own root, and a normal number
   pub sqrt-bounded : Guards opSqrt a b r → Answered r → SqrtBound binary32 a (wordOf r)
-  sqrt-bounded g h = rw (answered-word g h) (sqrt-bound binary32 a (sqrt-normal g h))
+  sqrt-bounded g h = rw (answered-word g h) (go (isZero binary32 a) refl)
+    where
+      go : (t : Bool) → isZero binary32 a ≡ t → SqrtBound binary32 a (cond t a (sqrtWord binary32 a))
+      go true z = zero-bound binary32 a z
+      go false z = let o = open-to opSqrt a b r g h in sqrt-bound binary32 a (normal-of binary32 a (o .first) z (o .small) (o .sign))
 
   invsqrt-normal : Guards opInvsqrt a b r → Answered r → Normal binary32 a
-  invsqrt-normal g h = let o = open-to opInvsqrt a b r g h in is-normal opInvsqrt a b refl o refl
+  invsqrt-normal g h = let o = open-to opInvsqrt a b r g h in normal-of binary32 a (o .first) (o .zero) (o .small) (o .sign)
 
   pub invsqrt-bounded : Guards opInvsqrt a b r → Answered r → InvsqrtBound a (wordOf r)
   invsqrt-bounded g h = rw (answered-word g h) (invsqrt-bound a (invsqrt-normal g h))

@@ -5,7 +5,7 @@ use native.Mathlib.Nat.{le-refl, le-of-lt}
 use native.Mathlib.Omega.{arith}
 use mathlib.Core.Path.{_≡_, refl, sym, ap, subst, _∙_}
 use mathlib.Core.Logic.{_⊎_, inl, inr}
-use mathlib.Core.Bool.{Bool, true, false, cond, true≢false, false≢true}
+use mathlib.Core.Bool.{Bool, true, false, cond, _&&_, true≢false, false≢true}
 use borrow.Author.Tests.{leb-true, leb-false, eqb-true}
 use lib.Dec.{T, leb, eqb}
 use mir.Syntax.{w32}
@@ -14,16 +14,18 @@ use mir.Facts.{ofZ-toZ}
 use lib.Ieee.{Float, nan, binary32, top, fits, nanBits, ofBits, toBits}
 use lib.Ieee.Bits.{ofBits-toBits}
 use lib.Ieee.Fits.{mul-fits}
+use Rattle.format.specs.Classes.{isEndless, isZero}
 use Rattle.format.specs.Fields.{magnitude}
 use Rattle.format.specs.Meaning.{Under32, To31, Under23}
 use Rattle.format.specs.Estimates.{Invertible}
+use Rattle.format.proofs.Classes.{finite-of, full, positive, no-sign, normal-of}
 use Rattle.format.proofs.Fields.{magnitude-lt}
 use Rattle.format.proofs.Nan.{nan-read, nan-written}
 use Rattle.float.specs.Engine.{ieee}
 use Rattle.float.specs.Atan.{atanNormWord}
 use Rattle.float.specs.Powf.{productWord}
-use Rattle.raw.specs.Raw.{Kernel, none, kernels, rawOf}
-use Rattle.sizes.proofs.Bitwise.{trunc-number, fract-number, floor-number, ceil-number, round-number, abs-number, copysign-number, signum-number, sqrt-number, invsqrt-number, inv-number}
+use Rattle.raw.specs.Raw.{Kernel, none, kernels}
+use Rattle.sizes.proofs.Bitwise.{finite-number, trunc-number, fract-number, floor-number, ceil-number, round-number, abs-number, copysign-number, signum-number, sqrt-number, invsqrt-number, inv-number}
 use Rattle.sizes.proofs.Recip.{recip-number}
 use Rattle.sizes.proofs.Exp.{exp-number}
 use Rattle.sizes.proofs.Ln.{ln-number}
@@ -36,10 +38,10 @@ use Rattle.sizes.proofs.Powi.{powi-number}
 use Rattle.guard.specs.declared.gate.Gate.{Gate}
 use Rattle.guard.specs.Operations.{opTrunc, opFloor, opRound, opSqrt, opInvsqrt, opInv, opRecip, opExp, opLn, opPowi, opPowf, opAtan, opAtan2, opCos}
 use Rattle.guard.specs.Gates.{gateOf, judged, place, within, passes, larger}
-use Rattle.guard.specs.Refusals.{isEndless, isPastPower, refusalOf}
-use Rattle.guard.specs.Guarded.{valueOf}
+use Rattle.guard.specs.Refusals.{isPastPower, refusalOf}
+use Rattle.guard.specs.Guarded.{valueAt, valueOf}
 use Rattle.guard.proofs.Each.{Each, done, _⨟_, of-each}
-use Rattle.guard.proofs.Open.{Open, opened, finite-of, positive, above-black, is-normal, Between, both, parted, plain, between}
+use Rattle.guard.proofs.Open.{Open, opened, Between, both, parted, plain, between}
 
 -- ---- the magnitude that an open gate has let pass
 
@@ -64,8 +66,8 @@ module _ (a : ℕ) where
 pub invertible : (a b : ℕ) → Open opInv a b → Invertible binary32 a
 unfolding judged
 invertible a b o = record {
-  above = is-normal opInv a b refl o refl .above;
-  below = subst (λ (x : ℕ). x ≤ 0x7e80_0000) (positive a (o .sign)) (by-magnitude (gateOf opInv) a refl (o .gate) .high);
+  above = normal-of binary32 a (o .first) (o .zero) (o .small) (o .sign) .above;
+  below = subst (λ (x : ℕ). x ≤ 0x7e80_0000) (positive binary32 a (no-sign binary32 a (o .zero) (o .sign))) (by-magnitude (gateOf opInv) a refl (o .gate) .high);
 }
 
 module _ (a : ℕ) where
@@ -138,8 +140,8 @@ no-float x h e =
     let z : _≡_ {A = ℕ} 0xffff_ffff 0x7fc0_0000 = sym e ∙ ap (toBits binary32) r ∙ nan-written binary32 in
     omega arith
 
-not-endless : (w : ℕ) → isEndless w ≡ false → w ≡ 0xffff_ffff → ⊥
-not-endless w n e = false≢true (sym n ∙ ap isEndless e)
+not-endless : (w : ℕ) → isEndless binary32 w ≡ false → w ≡ 0xffff_ffff → ⊥
+not-endless w n e = false≢true (sym n ∙ ap (isEndless binary32) e)
 
 -- the power whose magnitude is no power is refused
 no-least : (b : ℕ) → b < 2 ^ 32 → isPastPower b ≡ false → ofZ w32 (toZ w32 b) ≡ 2 ^ 31 → ⊥
@@ -148,11 +150,22 @@ no-least b h n e = true≢false (sym (ap isPastPower (sym (ofZ-toZ {w = w32} (re
 -- ---- the law, kernel by kernel
 
 abbrev IsNumber : ℕ → Kernel → Type 0
-IsNumber op k = (a b : ℕ) → a < 2 ^ 32 → b < 2 ^ 32 → Open op a b → nanBits binary32 (rawOf k a b) ≡ false
+IsNumber op k = (a b : ℕ) → a < 2 ^ 32 → b < 2 ^ 32 → Open op a b → nanBits binary32 (valueAt op k a b) ≡ false
+
+-- a zero that is its own root is no NaN, as no word is that refusal 1 lets through
+own : (w : ℕ) → isEndless binary32 w ≡ false → nanBits binary32 w ≡ false
+own w n = finite-number binary32 w (finite-of binary32 w n)
+
+chosen : (t : Bool) (v w : ℕ) → nanBits binary32 v ≡ false → (t ≡ false → nanBits binary32 w ≡ false) → nanBits binary32 (cond t v w) ≡ false
+chosen true v w h k = h
+chosen false v w h k = k refl
+
+zero-number : nanBits binary32 0 ≡ false
+unfolding nanBits
+zero-number = refl
 
 no-kernel : (op : ℕ) → IsNumber op none
-unfolding nanBits
-no-kernel op a b h k o = refl
+no-kernel op a b h k o = chosen (eqb op opSqrt && isZero binary32 a) a 0 (own a (o .first)) (λ e. zero-number)
 
 each : Each IsNumber 0 kernels
 unfolding judged
@@ -163,17 +176,17 @@ each =
     ⨟ (λ a b h k o. floor-number a (to31 a (o .gate)))
     ⨟ (λ a b h k o. ceil-number a (to31 a (o .gate)))
     ⨟ (λ a b h k o. round-number a (under23 a (o .gate)))
-    ⨟ (λ a b h k o. abs-number a (finite-of a (o .first)))
-    ⨟ (λ a b h k o. copysign-number a b (finite-of a (o .first)))
-    ⨟ (λ a b h k o. signum-number a (finite-of a (o .first)))
-    ⨟ (λ a b h k o. sqrt-number a (is-normal opSqrt a b refl o refl))
-    ⨟ (λ a b h k o. invsqrt-number a (is-normal opInvsqrt a b refl o refl))
+    ⨟ (λ a b h k o. abs-number a (finite-of binary32 a (o .first)))
+    ⨟ (λ a b h k o. copysign-number a b (finite-of binary32 a (o .first)))
+    ⨟ (λ a b h k o. signum-number a (finite-of binary32 a (o .first)))
+    ⨟ (λ a b h k o. chosen (isZero binary32 a) a _ (own a (o .first)) (λ z. sqrt-number a (normal-of binary32 a (o .first) z (o .small) (o .sign))))
+    ⨟ (λ a b h k o. invsqrt-number a (normal-of binary32 a (o .first) (o .zero) (o .small) (o .sign)))
     ⨟ (λ a b h k o. inv-number a (invertible a b o))
-    ⨟ (λ a b h k o. recip-number a (above-black opRecip a b refl o) (to125 a (o .gate)))
+    ⨟ (λ a b h k o. recip-number a (full binary32 a (o .zero) (o .small)) (to125 a (o .gate)))
     ⨟ (λ a b h k o. exp-number a (within-exp a (not-endless a (o .first)) (o .gate)))
-    ⨟ (λ a b h k o. ln-number a (is-normal opLn a b refl o refl))
-    ⨟ (λ a b h k o. powi-number a (toZ w32 b) h (above-black opPowi a b refl o) (finite-of a (o .first)) (no-least b k (o .power)))
-    ⨟ (λ a b h k o. powf-number a b (is-normal opPowf a b refl o refl) (within-exp (productWord a b) (no-float _ (mul-fits binary32 _ _)) (o .gate)))
+    ⨟ (λ a b h k o. ln-number a (normal-of binary32 a (o .first) (o .zero) (o .small) (o .sign)))
+    ⨟ (λ a b h k o. powi-number a (toZ w32 b) h (full binary32 a (o .zero) (o .small)) (finite-of binary32 a (o .first)) (no-least b k (o .power)))
+    ⨟ (λ a b h k o. powf-number a b (normal-of binary32 a (o .first) (o .zero) (o .small) (o .sign)) (within-exp (productWord a b) (no-float _ (mul-fits binary32 _ _)) (o .gate)))
     ⨟ (λ a b h k o. atan-number a (under64 a (o .gate)))
     ⨟ (λ a b h k o. let p = pair a b (o .gate) in atan2-number a b h k (p .first) (p .second) (p .either))
     ⨟ (λ a b h k o. cos-number a (to1024 a (o .gate)))

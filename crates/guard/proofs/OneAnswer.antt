@@ -8,6 +8,7 @@ use Rattle.guard.proofs.gate.of.Reads as gate-of-reads
 use Rattle.guard.proofs.gate.passes.Reads as gate-passes-reads
 use Rattle.guard.proofs.gate.judged.Reads as gate-judged-reads
 use Rattle.guard.proofs.refusal.first.Reads as refusal-first-reads
+use Rattle.guard.proofs.refusal.is_zero.Reads as refusal-is-zero-reads
 use Rattle.guard.proofs.trunc.Reads as trunc-reads
 use Rattle.guard.proofs.fract.Reads as fract-reads
 use Rattle.guard.proofs.floor.Reads as floor-reads
@@ -53,6 +54,9 @@ gate-judged κs = pinned _ (λ a r x p. p)
 
 pub refusal-first : (κs : Lfts 0) → OneAnswer (refusal-first-reads.Post κs) (λ r x. r)
 refusal-first κs = pinned _ (λ a r x p. p)
+
+pub refusal-is-zero : (κs : Lfts 0) → OneAnswer (refusal-is-zero-reads.Post κs) (λ r x. r)
+refusal-is-zero κs = pinned _ (λ a r x p. p)
 
 pub trunc : (κs : Lfts 0) → OneAnswer (trunc-reads.Post κs) (λ r x. r)
 trunc κs = pinned _ (λ a r x p. p .0 .answer)

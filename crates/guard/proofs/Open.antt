@@ -1,74 +1,44 @@
--- What is known of the operands of an operation that is not refused: they are finite, in the class that it asks for, and within its
--- gate. Assumes nothing.
+-- What is known of the operands of an operation that is not refused: none of the refusals holds, and what that says of the gate. Assumes
+-- nothing.
 use Prim.Native.Nat.{ℕ, _≤_, _<_}
-use native.Mathlib.Nat.{mod-eq-of-lt, div-eq-of-lt, div-lt-iff-lt-mul, le-of-suc-le-suc, eq-or-lt-of-le}
 use native.Mathlib.Omega.{arith}
-use mathlib.Core.Path.{_≡_, refl, sym, ap, subst, _∙_}
+use mathlib.Core.Path.{_≡_, refl, sym, ap, _∙_}
 use mathlib.Core.Logic.{_⊎_, inl, inr}
 use mathlib.Core.Bool.{Bool, true, false, not, _&&_, _||_, false≢true}
 use mathlib.Core.List.{[], _∷_}
-use borrow.Author.Tests.{leb-true, leb-false, lt-leb, ltb-true, eqb-true, eqb-false, not-true, not-false}
+use borrow.Author.Tests.{leb-true, lt-leb, ltb-true, eqb-true, eqb-false, not-false}
 use lib.Dec.{leb, ltb, eqb}
-use lib.Ieee.{binary32, hid, ones, top, unlike}
-use Rattle.format.specs.Fields.{negative, magnitude, exponent, infWord}
-use Rattle.format.specs.Value.{Finite}
-use Rattle.format.specs.Estimates.{Normal}
-use Rattle.format.proofs.Fields.{hid-pos, exponent-lt}
+use lib.Ieee.{binary32, top, unlike}
+use Rattle.format.specs.Classes.{isEndless, isZero, isSmall, isBelowZero}
 use Rattle.guard.specs.declared.gate.Gate.{Gate}
 use Rattle.guard.specs.Operations.{among, opPowi}
 use Rattle.guard.specs.Gates.{low, high, other, gateOf, judged, place, within, passes}
-use Rattle.guard.specs.Refusals.{isEndless, isBlack, isPastPower, twoFloats, refusesBlack, refusesSign, refusalOf}
+use Rattle.guard.specs.Refusals.{isPastPower, twoFloats, refusesZero, refusesSmall, refusesSign, refusalOf}
 use Rattle.guard.proofs.First.{none-holds}
 
 -- ---- none of the refusals holds
 
 pub record Open (op a b : ℕ) : Type 0 where
-  pub first : isEndless a ≡ false
-  pub second : (twoFloats op && isEndless b) ≡ false
-  pub black : (refusesBlack op && isBlack a) ≡ false
-  pub sign : (refusesSign op && negative binary32 a) ≡ false
+  pub first : isEndless binary32 a ≡ false
+  pub second : (twoFloats op && isEndless binary32 b) ≡ false
+  pub zero : (refusesZero op && isZero binary32 a) ≡ false
+  pub small : (refusesSmall op && isSmall binary32 a) ≡ false
+  pub sign : (refusesSign op && isBelowZero binary32 a) ≡ false
   pub gate : passes (gateOf op) (judged op a b) ≡ true
   pub power : (among (opPowi ∷ []) op && isPastPower b) ≡ false
 
 pub opened : (op a b : ℕ) → refusalOf op a b ≡ 0 → Open op a b
 opened op a b e =
     let n = none-holds op a b e in
-    record { first = n .0; second = n .1 .0; black = n .1 .1 .0; sign = n .1 .1 .1 .0; gate = not-false _ (n .1 .1 .1 .1 .0); power = n .1 .1 .1 .1 .1 .0 }
-
--- ---- the classes, as the laws of the kernels have them
-
-pub finite-of : (w : ℕ) → isEndless w ≡ false → Finite binary32 w
-finite-of w n = go (eq-or-lt-of-le (le-of-suc-le-suc (exponent-lt binary32 w)))
-  where
-    go : (exponent binary32 w ≡ ones binary32) ⊎ (exponent binary32 w < ones binary32) → Finite binary32 w
-    go (inl e) = absurd (eqb-false _ _ n e)
-    go (inr l) = l
-
-under-infinity : (w : ℕ) → Finite binary32 w → magnitude binary32 w < infWord binary32
-under-infinity w h = div-lt-iff-lt-mul (hid-pos binary32) .0 h
-
-not-black : (w : ℕ) → isBlack w ≡ false → hid binary32 ≤ magnitude binary32 w
-not-black w n = go (leb (hid binary32) (magnitude binary32 w)) refl
-  where
-    go : (t : Bool) → leb (hid binary32) (magnitude binary32 w) ≡ t → hid binary32 ≤ magnitude binary32 w
-    go true e = leb-true _ _ e
-    go false e = let z : exponent binary32 w ≡ 0 = div-eq-of-lt (leb-false _ _ e) in absurd (eqb-false _ _ n z)
-
-pub positive : (w : ℕ) → negative binary32 w ≡ false → magnitude binary32 w ≡ w
-positive w n = mod-eq-of-lt (leb-false _ _ n)
-
--- an operation that takes no black operand has one above it, and a normal one where it takes no sign either
-module _ (op a b : ℕ) (black : refusesBlack op ≡ true) (o : Open op a b) where
-  pub above-black : hid binary32 ≤ magnitude binary32 a
-  above-black = not-black a (rw black at (o .black))
-
-  pub is-normal : refusesSign op ≡ true → Normal binary32 a
-  is-normal sign =
-      let m = positive a (rw sign at (o .sign)) in
-      record {
-        above = subst (λ (x : ℕ). hid binary32 ≤ x) m above-black;
-        below = subst (λ (x : ℕ). x < infWord binary32) m (under-infinity a (finite-of a (o .first)));
-      }
+    record {
+      first = n .0;
+      second = n .1 .0;
+      zero = n .1 .1 .0;
+      small = n .1 .1 .1 .0;
+      sign = n .1 .1 .1 .1 .0;
+      gate = not-false _ (n .1 .1 .1 .1 .1 .0);
+      power = n .1 .1 .1 .1 .1 .1 .0;
+    }
 
 -- ---- the gate of a word whose sign is clear
 

@@ -1,15 +1,16 @@
 -- What a guarded call answers, and the answer as words: a refusal's number, 0 where there is none, and one word or two. Definitions only.
 use Prim.Native.Nat.{ℕ, zero, suc}
 use mathlib.Core.Path.{_≡_}
-use mathlib.Core.Bool.{cond}
+use mathlib.Core.Bool.{cond, _&&_}
 use lib.Dec.{eqb}
 use lib.Ieee.{binary32, ofBits, toBits}
+use Rattle.format.specs.Classes.{isZero}
 use Rattle.format.specs.Parts.{truncWord, fractWord}
-use Rattle.raw.specs.Raw.{kernelOf, operandsOf, rawOf}
+use Rattle.raw.specs.Raw.{Kernel, kernelOf, operandsOf, rawOf}
 use Rattle.guard.specs.declared.Guarded.{Guarded}
 use Rattle.guard.specs.declared.Guarded.the-variants.{Number, Parts, Refused}
 use Rattle.guard.specs.declared.Answer.{Answer}
-use Rattle.guard.specs.Operations.{opTrunc}
+use Rattle.guard.specs.Operations.{opTrunc, opSqrt}
 use Rattle.guard.specs.Refusals.{refusalOf}
 
 -- ---- an answer as words
@@ -64,9 +65,12 @@ pub record Gives (n w : ℕ) (r : Answer) : Type 0 where
   pub refusal : refusalGiven r ≡ n
   pub word : wordOf r ≡ cond (eqb n 0) w 0
 
--- the word that an operation answers with, where it is not refused: the raw kernel's
+-- the word that an operation answers with, where it is not refused: its raw kernel's, but that a zero is its own square root
+abbrev pub valueAt : ℕ → Kernel → ℕ → ℕ → ℕ
+valueAt op k a b = cond (eqb op opSqrt && isZero binary32 a) a (rawOf k a b)
+
 abbrev pub valueOf : ℕ → ℕ → ℕ → ℕ
-valueOf op a b = rawOf (kernelOf op) a b
+valueOf op a b = valueAt op (kernelOf op) a b
 
 -- a guarded operation on two words
 abbrev pub Guards : ℕ → ℕ → ℕ → Answer → Type 0

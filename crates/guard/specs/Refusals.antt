@@ -1,25 +1,17 @@
--- The refusals 1 to 5 in the order in which they are judged: each has its number, the operations that can give it, and when it holds.
--- The first that holds is given. Definitions only.
+-- The refusals 1, 2, 9, 3, 4 and 5, in the order in which they are judged: each has its number, the operations that can give it, and
+-- when it holds. The first that holds is given. Definitions only.
 use Prim.Native.Nat.{ℕ, _^_}
-use mathlib.Core.Bool.{Bool, true, cond, not, _&&_}
+use mathlib.Core.Bool.{Bool, true, cond, not, _&&_, _||_}
 use mathlib.Core.List.{List, [], _∷_}
 use lib.Dec.{ltb, eqb}
 use lib.IntN.{natAbs}
-use lib.Ieee.{binary32, ones}
+use lib.Ieee.{binary32}
 use mir.Syntax.{w32}
 use mir.Val.{toZ}
-use Rattle.format.specs.Fields.{negative, exponent}
+use Rattle.format.specs.Classes.{isEndless, isZero, isSmall, isBelowZero}
 use Rattle.guard.specs.declared.gate.Gate.{Gate}
 use Rattle.guard.specs.Operations.{among, opCopysign, opSqrt, opInvsqrt, opInv, opRecip, opLn, opPowi, opPowf, opAtan2, opHypot}
 use Rattle.guard.specs.Gates.{gateOf, passes, judged}
-
--- an infinity or a NaN
-abbrev pub isEndless : ℕ → Bool
-isEndless w = eqb (exponent binary32 w) (ones binary32)
-
--- taken for zero, whatever its fraction is
-abbrev pub isBlack : ℕ → Bool
-isBlack w = eqb (exponent binary32 w) 0
 
 -- powi's second word as a power: below -2 ^ 20 or above 2 ^ 20
 abbrev pub isPastPower : ℕ → Bool
@@ -33,8 +25,13 @@ every op = true
 abbrev pub twoFloats : ℕ → Bool
 twoFloats = among (opCopysign ∷ opPowf ∷ opAtan2 ∷ opHypot ∷ [])
 
-abbrev pub refusesBlack : ℕ → Bool
-refusesBlack = among (opSqrt ∷ opInvsqrt ∷ opInv ∷ opRecip ∷ opLn ∷ opPowi ∷ opPowf ∷ [])
+-- those that have no answer for a zero
+abbrev pub refusesZero : ℕ → Bool
+refusesZero = among (opInvsqrt ∷ opInv ∷ opRecip ∷ opLn ∷ opPowi ∷ opPowf ∷ [])
+
+-- and sqrt, which has one
+abbrev pub refusesSmall : ℕ → Bool
+refusesSmall op = eqb op opSqrt || refusesZero op
 
 abbrev pub refusesSign : ℕ → Bool
 refusesSign = among (opSqrt ∷ opInvsqrt ∷ opInv ∷ opLn ∷ opPowf ∷ [])
@@ -49,10 +46,11 @@ pub record Refusal : Type 0 where
 -- a float
 abbrev pub refusals : Gate → List Refusal
 refusals g =
-    record { number = 1; by = every; when = λ op a b. isEndless a }
-    ∷ record { number = 1; by = twoFloats; when = λ op a b. isEndless b }
-    ∷ record { number = 2; by = refusesBlack; when = λ op a b. isBlack a }
-    ∷ record { number = 3; by = refusesSign; when = λ op a b. negative binary32 a }
+    record { number = 1; by = every; when = λ op a b. isEndless binary32 a }
+    ∷ record { number = 1; by = twoFloats; when = λ op a b. isEndless binary32 b }
+    ∷ record { number = 2; by = refusesZero; when = λ op a b. isZero binary32 a }
+    ∷ record { number = 9; by = refusesSmall; when = λ op a b. isSmall binary32 a }
+    ∷ record { number = 3; by = refusesSign; when = λ op a b. isBelowZero binary32 a }
     ∷ record { number = 4; by = every; when = λ op a b. not (passes g (judged op a b)) }
     ∷ record { number = 5; by = among (opPowi ∷ []); when = λ op a b. isPastPower b }
     ∷ []

@@ -1,11 +1,11 @@
-// The refusals 1 to 5: when each holds, and which is the first in the list's order.
+// The refusals 1, 2, 9, 3, 4 and 5: when each holds, and which is the first in this order.
 ghost use mathlib.Core.Path.{_≡_};
 ghost use mathlib.Core.Bool.{_&&_};
 ghost use mathlib.Core.List.{[], _∷_};
 ghost use lib.Ieee.{binary32};
-ghost use Rattle.format.specs.Fields.{negative};
+ghost use Rattle.format.specs.Classes.{isEndless, isZero, isSmall, isBelowZero};
 ghost use Rattle.guard.specs.Operations.{among, opPowi};
-ghost use Rattle.guard.specs.Refusals.{isEndless, isBlack, isPastPower, twoFloats, refusesBlack, refusesSign, refusalBehind};
+ghost use Rattle.guard.specs.Refusals.{isPastPower, twoFloats, refusesZero, refusesSmall, refusesSign, refusalBehind};
 use crate::gate;
 use crate::gate::Gate;
 use crate::number;
@@ -24,8 +24,11 @@ pub fn first(gate: Gate, op: u32, a: F32, b: u32) -> u32
     if is_second_refused(op, b) {
         return 1;
     }
-    if is_black_refused(op, a) {
+    if is_zero_refused(op, a) {
         return 2;
+    }
+    if is_small_refused(op, a) {
+        return 9;
     }
     if is_sign_refused(op, a) {
         return 3;
@@ -41,13 +44,34 @@ pub fn first(gate: Gate, op: u32, a: F32, b: u32) -> u32
 
 // Whether a word is an infinity or a NaN.
 fn is_endless(x: F32) -> bool
-    ensures { λ r. ⌜ r ≡ isEndless (x .0) ⌝ }
+    ensures { λ r. ⌜ r ≡ isEndless binary32 (x .0) ⌝ }
 {
     x.extract_exponent_bits() == 255
 }
 
+// Whether a word is 0 or -0.
+pub fn is_zero(x: F32) -> bool
+    ensures { λ r. ⌜ r ≡ isZero binary32 (x .0) ⌝ }
+{
+    x.abs().0 == 0
+}
+
+// Whether a word is nearer to 0 than every normal number, and not 0.
+fn is_small(x: F32) -> bool
+    ensures { λ r. ⌜ r ≡ isSmall binary32 (x .0) ⌝ }
+{
+    (x.extract_exponent_bits() == 0) & !is_zero(x)
+}
+
+// Whether a word is below 0, which -0 is not.
+fn is_below_zero(x: F32) -> bool
+    ensures { λ r. ⌜ r ≡ isBelowZero binary32 (x .0) ⌝ }
+{
+    x.is_sign_negative() & !is_zero(x)
+}
+
 fn is_second_refused(op: u32, b: u32) -> bool
-    ensures { λ r. ⌜ r ≡ (twoFloats op && isEndless b) ⌝ }
+    ensures { λ r. ⌜ r ≡ (twoFloats op && isEndless binary32 b) ⌝ }
 {
     match op {
         number::COPYSIGN | number::POWF | number::ATAN2 | number::HYPOT => is_endless(F32(b)),
@@ -55,21 +79,16 @@ fn is_second_refused(op: u32, b: u32) -> bool
     }
 }
 
-// Black is an exponent field of 0, whatever the fraction is.
-fn is_black_refused(op: u32, a: F32) -> bool
-    ensures { λ r. ⌜ r ≡ (refusesBlack op && isBlack (a .0)) ⌝ }
+fn is_zero_refused(op: u32, a: F32) -> bool
+    ensures { λ r. ⌜ r ≡ (refusesZero op && isZero binary32 (a .0)) ⌝ }
 {
-    if refuses_black(op) {
-        return a.extract_exponent_bits() == 0;
-    }
-    false
+    refuses_zero(op) & is_zero(a)
 }
 
-fn refuses_black(op: u32) -> bool
-    ensures { λ r. ⌜ r ≡ refusesBlack op ⌝ }
+fn refuses_zero(op: u32) -> bool
+    ensures { λ r. ⌜ r ≡ refusesZero op ⌝ }
 {
     match op {
-        number::SQRT => true,
         number::INVSQRT => true,
         number::INV => true,
         number::RECIP => true,
@@ -80,13 +99,17 @@ fn refuses_black(op: u32) -> bool
     }
 }
 
-fn is_sign_refused(op: u32, a: F32) -> bool
-    ensures { λ r. ⌜ r ≡ (refusesSign op && negative binary32 (a .0)) ⌝ }
+// sqrt answers a zero, and takes no small number.
+fn is_small_refused(op: u32, a: F32) -> bool
+    ensures { λ r. ⌜ r ≡ (refusesSmall op && isSmall binary32 (a .0)) ⌝ }
 {
-    if refuses_sign(op) {
-        return a.is_sign_negative();
-    }
-    false
+    ((op == number::SQRT) | refuses_zero(op)) & is_small(a)
+}
+
+fn is_sign_refused(op: u32, a: F32) -> bool
+    ensures { λ r. ⌜ r ≡ (refusesSign op && isBelowZero binary32 (a .0)) ⌝ }
+{
+    refuses_sign(op) & is_below_zero(a)
 }
 
 fn refuses_sign(op: u32) -> bool

@@ -1,20 +1,23 @@
--- What a place of a strip holds, by its operation: of a guarded one its refusal and the zero word, or no refusal and the raw word; of a
+-- What a place of a strip holds, by its operation: of a guarded one its refusal and the zero word, or no refusal and its value; of a
 -- raw one no refusal and the raw word. Neither 6 nor 7 stands at a place. Assumes nothing.
 use Prim.Native.Nat.{ℕ, zero, suc, _-_, _/_, _%_, _^_, _≤_, _<_}
 use native.Mathlib.Nat.{zero-add, div-eq-of-lt, mod-eq-of-lt}
 use native.Mathlib.Omega.{arith}
 use mathlib.Core.Path.{_≡_, refl, sym, ap, subst, _∙_}
 use mathlib.Core.Logic.{_⊎_, inl, inr, ⊎-elim}
-use mathlib.Core.Bool.{Bool, true, false, cond}
+use mathlib.Core.Bool.{Bool, true, false, cond, _&&_}
 use mathlib.Core.List.{List, [], _∷_}
 use borrow.Author.Tests.{le-leb, lt-leb, ne-eqb, leb-true, leb-false, ltb-true, ltb-false, eqb-true, eqb-false}
 use lib.Dec.{leb, ltb, eqb}
 use lib.ListN.{List·getD-eq-default}
+use lib.Ieee.{binary32}
+use Rattle.format.specs.Classes.{isZero}
 use Rattle.raw.specs.Raw.{Kernel, none, one, two, kernels, kernelOf, operandsOf, rawOf}
+use Rattle.guard.specs.Operations.{opSqrt}
 use Rattle.guard.specs.Gates.{gateOf}
 use Rattle.guard.specs.Refusals.{Refusal, refusals, holds, firstOf, refusalBehind, refusalOf}
 use Rattle.guard.specs.Guarded.{valueOf}
-use Rattle.guard.proofs.Laws.{second-word-is-ignored}
+use Rattle.guard.proofs.Laws.{one-word, second-word-is-ignored}
 use Rattle.frame.specs.Words.{packed, answerWords, kernelNumber, operationWords, shapeOf, framed}
 use Rattle.strip.specs.Strip.{operandsIn, used, placeWords, wordAt, refusalAt}
 use Rattle.strip.proofs.Words.{raw-word}
@@ -26,7 +29,7 @@ unread op a b e = go (leb 0x80 op) e
   where
     go : (t : Bool) → operandsOf (kernelOf (cond t (op - 0x80) op)) ≡ 1
         → cond t (rawOf (kernelOf (op - 0x80)) a 0) (answerWords (refusalOf op a 0) (valueOf op a 0)) ≡ cond t (rawOf (kernelOf (op - 0x80)) a b) (answerWords (refusalOf op a b) (valueOf op a b))
-    go true e = sym (second-word-is-ignored (op - 0x80) a b e .1)
+    go true e = sym (one-word (kernelOf (op - 0x80)) a b e)
     go false e = let s = second-word-is-ignored op a b e in rw (s .0, s .1)
 
 one-or-two : (k : Kernel) → (operandsOf k ≡ 0 → ⊥) → (operandsOf k ≡ 1) ⊎ (operandsOf k ≡ 2)
@@ -42,6 +45,9 @@ Neither n = (n ≡ 6 → ⊥) × (n ≡ 7 → ⊥)
 low : (n : ℕ) → n < 6 → Neither n
 low n h = ((λ e. omega arith), (λ e. omega arith))
 
+nine : Neither 9
+nine = ((λ e. omega arith), (λ e. omega arith))
+
 abbrev Every : List Refusal → Type 0
 Every [] = Unit
 Every (r ∷ rs) = Neither (r .number) × Every rs
@@ -56,7 +62,7 @@ first-of op a b (r ∷ rs) h = go (holds r op a b) (first-of op a b rs (h .1))
 
 listed : (op a b : ℕ) → Neither (refusalOf op a b)
 unfolding refusalBehind
-listed op a b = first-of op a b (refusals (gateOf op)) (low 1 (omega arith), (low 1 (omega arith), (low 2 (omega arith), (low 3 (omega arith), (low 4 (omega arith), (low 5 (omega arith), tt))))))
+listed op a b = first-of op a b (refusals (gateOf op)) (low 1 (omega arith), (low 1 (omega arith), (low 2 (omega arith), (nine, (low 3 (omega arith), (low 4 (omega arith), (low 5 (omega arith), tt)))))))
 
 -- ---- what stands at a place
 
@@ -93,15 +99,22 @@ module _ (op a b : ℕ) (known : operandsIn op ≡ 0 → ⊥) where
       below n = omega arith
 
   module _ (a-lt : a < 2 ^ 32) (b-lt : b < 2 ^ 32) where
-    -- no refusal, with the raw word
-    alone : (n : ℕ) → operationWords op a b ≡ rawOf (kernelOf n) a b → (refusalAt op a b ≡ 0) × (wordAt op a b ≡ rawOf (kernelOf n) a b)
-    alone n e = let h = raw-word n a b a-lt b-lt in (number-is _ e ∙ div-eq-of-lt h, word-is _ e ∙ mod-eq-of-lt h)
+    -- no refusal, with a word
+    alone : (w : ℕ) → w < 2 ^ 32 → operationWords op a b ≡ w → (refusalAt op a b ≡ 0) × (wordAt op a b ≡ w)
+    alone w h e = (number-is w e ∙ div-eq-of-lt h, word-is w e ∙ mod-eq-of-lt h)
 
     pub raw-place : 0x80 ≤ op → (refusalAt op a b ≡ 0) × (wordAt op a b ≡ rawOf (kernelOf (op - 0x80)) a b)
-    raw-place h = alone (op - 0x80) (rw (le-leb 0x80 op h))
+    raw-place h = alone (rawOf (kernelOf (op - 0x80)) a b) (raw-word (op - 0x80) a b a-lt b-lt) (rw (le-leb 0x80 op h))
+
+    value-word : valueOf op a b < 2 ^ 32
+    value-word = go (eqb op opSqrt && isZero binary32 a)
+      where
+        go : (t : Bool) → cond t a (rawOf (kernelOf op) a b) < 2 ^ 32
+        go true = a-lt
+        go false = raw-word op a b a-lt b-lt
 
     pub answered-place : op < 0x80 → refusalOf op a b ≡ 0 → (refusalAt op a b ≡ 0) × (wordAt op a b ≡ valueOf op a b)
-    answered-place h e = alone op (rw (lt-leb 0x80 op h, e) (zero-add (valueOf op a b)))
+    answered-place h e = alone (valueOf op a b) value-word (rw (lt-leb 0x80 op h, e) (zero-add (valueOf op a b)))
 
     -- what a place shows, whatever the operation: no refusal, or one of the list with the zero word
     shown : (refusalAt op a b ≡ 0) ⊎ ((refusalAt op a b ≡ refusalOf op a b) × (wordAt op a b ≡ 0))

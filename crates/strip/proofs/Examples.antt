@@ -42,9 +42,11 @@ untouched n = seen n (alone 7) (alone 8)
 
 abbrev pub cases : List Case
 cases =
-    -- sqrt of 4, -1 and 0, whatever the second list holds; the same raw, of -1 and -0
-    over 0x09 (three 0x4080_0000 0xbf80_0000 0x0000_0000) (three 1 2 3) (three 7 7 7) (three 8 8 8) (seen 0 (three 0x4000_0000 0 0) (three 0 3 2))
+    -- sqrt of 4, -1 and 00000001, whatever the second list holds, and of both zeros; the same raw, of -1 and -0; recip of both zeros
+    over 0x09 (three 0x4080_0000 0xbf80_0000 0x0000_0001) (three 1 2 3) (three 7 7 7) (three 8 8 8) (seen 0 (three 0x4000_0000 0 0) (three 0 3 9))
+    ∷ over 0x09 (two 0x0000_0000 0x8000_0000) (two 1 2) (two 7 7) (two 8 8) (seen 0 (two 0x0000_0000 0x8000_0000) (two 0 0))
     ∷ over 0x89 (two 0xbf80_0000 0x8000_0000) (two 1 2) (two 7 7) (two 8 8) (seen 0 (two 0x7fc0_0000 0x5fc0_0000) (two 0 0))
+    ∷ over 0x0c (two 0x0000_0000 0x8000_0000) (two 1 2) (two 7 7) (two 8 8) (seen 0 (two 0 0) (two 2 2))
     -- 3 to the powers 3, -1 and 2^20 + 1; 3 to -1 raw
     ∷ over 0x0f (three 0x4040_0000 0x4040_0000 0x4040_0000) (three 3 0xffff_ffff 0x0010_0001) (three 7 7 7) (three 8 8 8) (seen 0 (three 0x41d8_0000 0x3eaa_aaab 0) (three 0 0 5))
     ∷ over 0x8f (alone 0x4040_0000) (alone 0xffff_ffff) (alone 7) (alone 8) (seen 0 (alone 0x3eaa_aaab) (alone 0))

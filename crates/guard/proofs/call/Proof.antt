@@ -24,7 +24,7 @@ power c =
     subst (λ (n : ℕ). Guards opPowi (start .args .a) n (c .powi .result)) (ap (ofZ w32) z ∙ ofZ-toZ (start .fits .b)) (c .powi .ensures)
 
 missing : (op a b : ℕ) → kernelOf op ≡ none → GuardsByNumber op a b (refusedWith 6)
-missing op a b e = rw e (refused 6 0 (suc-ne-zero 5))
+missing op a b e = rw e (refused 6 _ (suc-ne-zero 5))
 
 pub call-spec : {M : Type 1} → statement M
 unfolding refusalBehind judged

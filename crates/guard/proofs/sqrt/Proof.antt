@@ -11,7 +11,7 @@ gate : (c : tie.After-answered) → let args = c .before .before .before .before
 gate c =
     let args = c .before .before .before .before .args in
     guards opSqrt (args .x .0) 0 _ _ _ _ (search needs) (search needs)
-    (c .before .before .before .of .ensures) (c .before .before .first .ensures) (c .before .sqrt .ensures .0) (c .answered .ensures)
+    (c .before .before .before .of .ensures) (c .before .before .first .ensures) (c .before .root .ensures) (c .answered .ensures)
 
 pub sqrt-spec : {M : Type 1} → statement M
 sqrt-spec =

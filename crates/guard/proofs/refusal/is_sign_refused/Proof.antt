@@ -1,14 +1,7 @@
 -- `guard::refusal::is_sign_refused` meets its contract. Assumes nothing.
 use borrow.Author.Needs.{needs}
-use mathlib.Core.Path.{sym, _∙_}
 use Rattle.guard.proofs.refusal.is_sign_refused.Statement.{statement}
 use Rattle.guard.proofs.refusal.is_sign_refused.Tie as tie
 
 pub is-sign-refused-spec : {M : Type 1} → statement M
-is-sign-refused-spec =
-    tie.close
-    (tie.spec
-    (λ c κs. search needs)
-    (λ c κs. search needs)
-    (λ c. rw (sym (c .before .before .refuses-sign .ensures) ∙ c .before .if1 .taken) (c .is-sign-negative .ensures))
-    (λ c. rw (sym (c .before .refuses-sign .ensures) ∙ c .if1 .left)))
+is-sign-refused-spec = tie.close (tie.spec (λ c κs. search needs) (λ c κs. search needs) (λ c. rw (c .before .refuses-sign .ensures, c .is-below-zero .ensures)))

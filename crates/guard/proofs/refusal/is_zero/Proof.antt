@@ -1,0 +1,7 @@
+-- `guard::refusal::is_zero` meets its contract. Assumes nothing.
+use borrow.Author.Needs.{needs}
+use Rattle.guard.proofs.refusal.is_zero.Statement.{statement}
+use Rattle.guard.proofs.refusal.is_zero.Tie as tie
+
+pub is-zero-spec : {M : Type 1} → statement M
+is-zero-spec = tie.close (tie.spec (λ c κs. search needs) (λ c. rw (c .before .abs .ensures .0)))
