@@ -1,9 +1,10 @@
--- Which words IEEE 754 compares as at least 0: those from +0 up to the infinity, and -0. Assumes nothing.
+-- Which words IEEE 754 compares as at least 0: those from +0 up to the infinity, and -0. And which it compares as equal to 0: the zeros,
+-- which are the words that count no units. Assumes nothing.
 use Prim.Native.Nat.{ℕ, zero, suc, _+_, _-_, _*_, _/_, _^_, _≤_, _<_}
 use native.Mathlib.Nat.{zero-mul, mul-one, mul-pos, zero-lt-suc, mod-eq-of-lt, mod-eq-sub-mod, lt-of-lt-of-le, ne-of-lt, ne-of-gt, le-of-lt, le-of-eq, eq-or-lt-of-le, mul-div-cancel, div-lt-iff-lt-mul, div-add-mod', zero-div, zero-mod}
 use native.Mathlib.Omega.{arith}
 use mathlib.Core.Path.{_≡_, refl, sym, ap, _∙_}
-use mathlib.Core.Logic.{_⊎_, inl, inr, ⊎-elim}
+use mathlib.Core.Logic.{⊎-elim}
 use mathlib.Core.Bool.{Bool, true, false, not, cond, _||_}
 use borrow.Author.Tests.{le-leb, lt-leb, leb-true, leb-false, eq-eqb, ne-eqb, lt-ltb, le-ltb, eqb-true, eqb-false}
 use lib.IntN.{pos}
@@ -15,6 +16,7 @@ use lib.Ieee.Exact.{HasValue}
 use lib.Ieee.Fits.{down-pos}
 use Rattle.format.specs.Fields.{negative, magnitude, exponent, fraction, infWord}
 use Rattle.format.specs.Value.{unitsAt, units}
+use Rattle.format.specs.Classes.{isZero}
 use Rattle.format.specs.Estimates.{atLeastZero}
 use Rattle.format.proofs.Fields.{hid-pos, low-of-magnitude}
 use Rattle.format.proofs.Order.{either}
@@ -64,6 +66,25 @@ value-at-least (fin t m e) s a c p v =
     rw (zero-mul (down e), mul-one (m * up e))
     (zero-against t (m * up e) ∙ rw (v .0, same-zero (m * up e) a c (down e) p (down-pos e) (v .1)))
 
+level-zero : (s : Bool) (n : ℕ) → level s n false 0 ≡ eqb n 0
+level-zero true zero = refl
+level-zero false zero = refl
+level-zero s (suc n) = rw (eqb·suc-zero n)
+
+value-equal : (x : Float) (s : Bool) (a c : ℕ) → 0 < c → HasValue x s a c → eq x positiveZero ≡ eqb a 0
+unfolding eq
+value-equal nan s a c p v = absurd v
+value-equal (inf t) s a c p v = absurd v
+value-equal (fin t m e) s a c p v = rw (zero-mul (down e), mul-one (m * up e)) (level-zero t (m * up e) ∙ same-zero (m * up e) a c (down e) p (down-pos e) (v .1))
+
+no-number : (x : Float) → eq nan x ≡ false
+unfolding eq
+no-number x = refl
+
+inf-equal : (s : Bool) → eq (inf s) positiveZero ≡ false
+unfolding eq
+inf-equal s = refl
+
 inf-at-least : (s : Bool) → le positiveZero (inf s) ≡ not s
 unfolding le lt eq
 inf-at-least true = refl
@@ -95,7 +116,7 @@ nothing : (f : Format) (x t : ℕ) → unitsAt f x t ≡ 0 → (x ≡ 0) × (t �
 nothing f zero t e = (refl, e)
 nothing f (suc x) t e = absurd (let z : ⊥ = omega (arith, hid-pos f, no-factor (hid f + t) (2 ^ x) (pow-pos x) e) in z)
 
-units-zero : (f : Format) (w : ℕ) → eqb (magnitude f w) 0 ≡ eqb (units f w) 0
+pub units-zero : (f : Format) (w : ℕ) → isZero f w ≡ eqb (units f w) 0
 units-zero f w = same-test (magnitude f w) 0 (units f w) 0 to back
   where
     to : magnitude f w ≡ 0 → units f w ≡ 0
@@ -134,32 +155,49 @@ module _ (f : Format) (w : ℕ) where
   above-zero : infWord f ≤ m → eqb m 0 ≡ false
   above-zero h = ne-eqb m 0 (ne-of-gt (lt-of-lt-of-le (inf-pos f) h))
 
+  read-nan : infWord f < m → ofBits f w ≡ nan
+  read-nan h = nan-read f w (nanBits-above f w ∙ lt-ltb (infWord f) m h)
+
+  read-inf : m ≡ infWord f → ofBits f w ≡ inf (negative f w)
+  read-inf e =
+      let x : exponent f w ≡ ones f = ap (λ (k : ℕ). k / hid f) e ∙ mul-div-cancel (ones f) (hid-pos f) in
+      inf-read f w x (nanBits-above f w ∙ le-ltb (infWord f) m (le-of-eq e))
+
+  read-number : m < infWord f → HasValue (ofBits f w) (negative f w) (units f w) (2 ^ low f)
+  read-number h = word-value f w (div-lt-iff-lt-mul (hid-pos f) .1 h)
+
   a-nan : infWord f < m → Agrees
   a-nan h =
       rw (above-zero (le-of-lt h), lt-leb m (infWord f) h)
-      (neither (negative f w) ∙ sym (ap (le positiveZero) (nan-read f w (nanBits-above f w ∙ lt-ltb (infWord f) m h)) ∙ nan-at-least))
+      (neither (negative f w) ∙ sym (ap (le positiveZero) (read-nan h) ∙ nan-at-least))
 
   an-infinity : m ≡ infWord f → Agrees
   an-infinity e =
-      let x : exponent f w ≡ ones f = ap (λ (k : ℕ). k / hid f) e ∙ mul-div-cancel (ones f) (hid-pos f) in
-      let r : ofBits f w ≡ inf (negative f w) = inf-read f w x (nanBits-above f w ∙ le-ltb (infWord f) m (le-of-eq e)) in
       rw (above-zero (le-of-eq (sym e)), le-leb m (infWord f) (le-of-eq e))
-      (not-is (negative f w) ∙ sym (ap (le positiveZero) r ∙ inf-at-least (negative f w)))
+      (not-is (negative f w) ∙ sym (ap (le positiveZero) (read-inf e) ∙ inf-at-least (negative f w)))
 
   a-number : m < infWord f → Agrees
   a-number h =
-      let v = word-value f w (div-lt-iff-lt-mul (hid-pos f) .1 h) in
       rw (units-zero f w, le-leb m (infWord f) (le-of-lt h))
-      (or-is (negative f w) (eqb (units f w) 0) ∙ sym (value-at-least (ofBits f w) (negative f w) (units f w) (2 ^ low f) (pow-pos (low f)) v))
+      (or-is (negative f w) (eqb (units f w) 0) ∙ sym (value-at-least (ofBits f w) (negative f w) (units f w) (2 ^ low f) (pow-pos (low f)) (read-number h)))
 
-  by-size : (m ≤ infWord f) ⊎ (infWord f < m) → Agrees
-  by-size (inl h) = ⊎-elim an-infinity a-number (eq-or-lt-of-le h)
-  by-size (inr h) = a-nan h
+  by-size : {P : Type 0} → (infWord f < m → P) → (m ≡ infWord f → P) → (m < infWord f → P) → P
+  by-size n i v = ⊎-elim (λ h. ⊎-elim i v (eq-or-lt-of-le h)) n (either m (infWord f))
+
+  equals : eq (ofBits f w) positiveZero ≡ isZero f w
+  equals = by-size
+      (λ h. ap (λ (x : Float). eq x positiveZero) (read-nan h) ∙ no-number positiveZero ∙ sym (above-zero (le-of-lt h)))
+      (λ e. ap (λ (x : Float). eq x positiveZero) (read-inf e) ∙ inf-equal (negative f w) ∙ sym (above-zero (le-of-eq (sym e))))
+      (λ h. value-equal (ofBits f w) (negative f w) (units f w) (2 ^ low f) (pow-pos (low f)) (read-number h) ∙ sym (units-zero f w))
 
 pub at-least-zero : (f : Format) (w : ℕ) → w < 2 * top f → atLeastZero f w ≡ fromZeroUp f w
 at-least-zero f w h =
     ap (λ (z : Float). le z (ofBits f w)) (zero-read f)
-    ∙ sym (by-magnitude f w h (negative f w) refl ∙ by-size f w (either (magnitude f w) (infWord f)))
+    ∙ sym (by-magnitude f w h (negative f w) refl ∙ by-size f w {P = Agrees f w} (a-nan f w) (an-infinity f w) (a-number f w))
+
+-- the comparison by which powi tells a zero
+pub equals-zero : (f : Format) (w : ℕ) → eq (ofBits f w) (ofBits f 0) ≡ isZero f w
+equals-zero f w = ap (eq (ofBits f w)) (zero-read f) ∙ equals f w
 
 pub up-to-infinity : (f : Format) (w : ℕ) → w ≤ infWord f → atLeastZero f w ≡ true
 up-to-infinity f w h = at-least-zero f w (omega (arith, inf-lt f)) ∙ rw (le-leb w (infWord f) h)

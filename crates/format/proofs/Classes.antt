@@ -1,20 +1,21 @@
 -- The classes of words as the laws of the kernels have them: what is not endless is finite, what is neither a zero nor small has a normal
 -- number's magnitude, and a zero counts no units and is its own square root. Assumes nothing.
-use Prim.Native.Nat.{ℕ, _+_, _-_, _*_, _/_, _%_, _^_, _≤_, _<_}
+use Prim.Native.Nat.{ℕ, _≤_, _<_}
 use native.Mathlib.Nat.{mod-eq-of-lt, div-eq-of-lt, div-lt-iff-lt-mul, le-of-suc-le-suc, eq-or-lt-of-le}
 use native.Mathlib.Omega.{arith}
-use mathlib.Core.Path.{_≡_, refl, sym, ap, subst, _∙_}
+use mathlib.Core.Path.{_≡_, refl, sym, subst, _∙_}
 use mathlib.Core.Logic.{_⊎_, inl, inr}
 use mathlib.Core.Bool.{Bool, true, false, not, _&&_, true≢false}
 use mathlib.Core.List.{List, [], _∷_, map}
 use borrow.Author.Tests.{leb-true, leb-false, eqb-true, eqb-false, eq-eqb}
 use lib.Dec.{leb, eqb}
-use lib.Ieee.{Format, binary32, binary64, prec, low, hid, ones}
-use Rattle.format.specs.Fields.{negative, magnitude, exponent, fraction, infWord}
+use lib.Ieee.{Format, binary32, binary64, hid, ones}
+use Rattle.format.specs.Fields.{negative, magnitude, exponent, infWord}
 use Rattle.format.specs.Value.{units, Finite}
 use Rattle.format.specs.Classes.{isEndless, isZero, isSmall, isBelowZero}
 use Rattle.format.specs.Estimates.{Normal, SqrtBound}
-use Rattle.format.proofs.Fields.{hid-pos, low-of-magnitude, exponent-lt}
+use Rattle.format.proofs.Fields.{hid-pos, exponent-lt}
+use Rattle.format.proofs.AtLeastZero.{units-zero}
 
 ones-not-zero : (f : Format) → eqb 0 (ones f) ≡ false
 ones-not-zero binary32 = refl
@@ -36,8 +37,8 @@ module _ (f : Format) (w : ℕ) where
   under-infinity h = div-lt-iff-lt-mul (hid-pos f) .0 h
 
   -- neither a zero nor small
-  pub full : isZero f w ≡ false → isSmall f w ≡ false → hid f ≤ magnitude f w
-  full z s = go (leb (hid f) (magnitude f w)) refl
+  pub above-small : isZero f w ≡ false → isSmall f w ≡ false → hid f ≤ magnitude f w
+  above-small z s = go (leb (hid f) (magnitude f w)) refl
     where
       field-zero : exponent f w ≡ 0 → isSmall f w ≡ true
       field-zero x = rw (eq-eqb (exponent f w) 0 x, z)
@@ -61,7 +62,7 @@ module _ (f : Format) (w : ℕ) where
   pub normal-of : isEndless f w ≡ false → isZero f w ≡ false → isSmall f w ≡ false → isBelowZero f w ≡ false → Normal f w
   normal-of e z s b =
       let m = positive (no-sign z b) in
-      record { above = subst (λ (x : ℕ). hid f ≤ x) m (full z s); below = subst (λ (x : ℕ). x < infWord f) m (under-infinity (finite-of e)) }
+      record { above = subst (λ (x : ℕ). hid f ≤ x) m (above-small z s); below = subst (λ (x : ℕ). x < infWord f) m (under-infinity (finite-of e)) }
 
   -- ---- a zero
 
@@ -70,7 +71,7 @@ module _ (f : Format) (w : ℕ) where
     field-of-zero = rw (eqb-true (magnitude f w) 0 z) (div-eq-of-lt (hid-pos f))
 
     no-units : units f w ≡ 0
-    no-units = rw field-of-zero (sym (low-of-magnitude f w) ∙ rw (eqb-true (magnitude f w) 0 z) (mod-eq-of-lt (hid-pos f)))
+    no-units = eqb-true (units f w) 0 (sym (units-zero f w) ∙ z)
 
     pub zero-ends : isEndless f w ≡ false
     zero-ends = rw field-of-zero (ones-not-zero f)

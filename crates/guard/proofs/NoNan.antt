@@ -18,7 +18,7 @@ use Rattle.format.specs.Classes.{isEndless, isZero}
 use Rattle.format.specs.Fields.{magnitude}
 use Rattle.format.specs.Meaning.{Under32, To31, Under23}
 use Rattle.format.specs.Estimates.{Invertible}
-use Rattle.format.proofs.Classes.{finite-of, full, positive, no-sign, normal-of}
+use Rattle.format.proofs.Classes.{finite-of, above-small, positive, no-sign, normal-of}
 use Rattle.format.proofs.Fields.{magnitude-lt}
 use Rattle.format.proofs.Nan.{nan-read, nan-written}
 use Rattle.float.specs.Engine.{ieee}
@@ -36,7 +36,7 @@ use Rattle.sizes.proofs.Cos.{cos-number, sin-number}
 use Rattle.sizes.proofs.Hypot.{hypot-number}
 use Rattle.sizes.proofs.Powi.{powi-number}
 use Rattle.guard.specs.declared.gate.Gate.{Gate}
-use Rattle.guard.specs.Operations.{opTrunc, opFloor, opRound, opSqrt, opInvsqrt, opInv, opRecip, opExp, opLn, opPowi, opPowf, opAtan, opAtan2, opCos}
+use Rattle.guard.specs.Operations.{opTrunc, opFloor, opRound, opSqrt, opInv, opRecip, opExp, opAtan, opAtan2, opCos}
 use Rattle.guard.specs.Gates.{gateOf, judged, place, within, passes, larger}
 use Rattle.guard.specs.Refusals.{isPastPower, refusalOf}
 use Rattle.guard.specs.Guarded.{valueAt, valueOf}
@@ -182,10 +182,10 @@ each =
     ⨟ (λ a b h k o. chosen (isZero binary32 a) a _ (own a (o .first)) (λ z. sqrt-number a (normal-of binary32 a (o .first) z (o .small) (o .sign))))
     ⨟ (λ a b h k o. invsqrt-number a (normal-of binary32 a (o .first) (o .zero) (o .small) (o .sign)))
     ⨟ (λ a b h k o. inv-number a (invertible a b o))
-    ⨟ (λ a b h k o. recip-number a (full binary32 a (o .zero) (o .small)) (to125 a (o .gate)))
+    ⨟ (λ a b h k o. recip-number a (above-small binary32 a (o .zero) (o .small)) (to125 a (o .gate)))
     ⨟ (λ a b h k o. exp-number a (within-exp a (not-endless a (o .first)) (o .gate)))
     ⨟ (λ a b h k o. ln-number a (normal-of binary32 a (o .first) (o .zero) (o .small) (o .sign)))
-    ⨟ (λ a b h k o. powi-number a (toZ w32 b) h (full binary32 a (o .zero) (o .small)) (finite-of binary32 a (o .first)) (no-least b k (o .power)))
+    ⨟ (λ a b h k o. powi-number a (toZ w32 b) h (above-small binary32 a (o .zero) (o .small)) (finite-of binary32 a (o .first)) (no-least b k (o .power)))
     ⨟ (λ a b h k o. powf-number a b (normal-of binary32 a (o .first) (o .zero) (o .small) (o .sign)) (within-exp (productWord a b) (no-float _ (mul-fits binary32 _ _)) (o .gate)))
     ⨟ (λ a b h k o. atan-number a (under64 a (o .gate)))
     ⨟ (λ a b h k o. let p = pair a b (o .gate) in atan2-number a b h k (p .first) (p .second) (p .either))
