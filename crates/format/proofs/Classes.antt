@@ -73,8 +73,8 @@ module _ (f : Format) (w : ℕ) where
     no-units : units f w ≡ 0
     no-units = eqb-true (units f w) 0 (sym (units-zero f w) ∙ z)
 
-    pub zero-ends : isEndless f w ≡ false
-    zero-ends = rw field-of-zero (ones-not-zero f)
+    pub zero-not-endless : isEndless f w ≡ false
+    zero-not-endless = rw field-of-zero (ones-not-zero f)
 
     pub zero-not-small : isSmall f w ≡ false
     zero-not-small = rw z (and-false (eqb (exponent f w) 0))
@@ -84,7 +84,7 @@ module _ (f : Format) (w : ℕ) where
 
     -- the square of a zero is itself
     pub zero-bound : SqrtBound f w w
-    zero-bound = record { finite = finite-of zero-ends; sign = refl; least = rw no-units (omega arith); most = rw no-units (omega arith) }
+    zero-bound = record { finite = finite-of zero-not-endless; sign = refl; least = rw no-units (omega arith); most = rw no-units (omega arith) }
 
 -- ---- the classes of the words beside each end, in both formats: both zeros, the first and the last small word, the first and the last
 -- normal one, the infinities and the NaN next to them

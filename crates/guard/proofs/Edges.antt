@@ -1,15 +1,17 @@
 -- The refusals in one table of the definitions: both sides of every end of a gate, and the operations that a refusal is about
--- beside those that it is not. And the ends of the gates as the numbers that are meant. Assumes nothing.
+-- beside those that it is not. And the ends of the gates as the numbers that are meant, and where an answer is not the raw word.
+-- Assumes nothing.
 use Prim.Native.Nat.{ℕ, _+_}
 use mathlib.Core.Path.{_≡_, refl}
 use mathlib.Core.Bool.{true, false}
 use mathlib.Core.List.{List, [], _∷_, _++_, map}
 use lib.IntN.{pos, negsuc}
-use lib.Ieee.{fin, binary32, add, sub, mul, div, lt, nanBits, ofBits, toBits, ofInt}
+use lib.Ieee.{fin, binary32, add, sub, mul, div, lt, le, eq, nanBits, ofBits, toBits, ofInt}
 use Rattle.float.specs.Ln.{polynomial, logarithm, lnWord}
 use Rattle.guard.specs.Operations.{opTrunc, opFract, opFloor, opCeil, opRound, opAbs, opCopysign, opSignum, opSqrt, opInvsqrt, opInv, opRecip, opExp, opLn, opPowi, opPowf, opAtan, opAtan2, opCos, opSin, opHypot}
 use Rattle.guard.specs.Gates.{low, high, gateOf, judged}
 use Rattle.guard.specs.Refusals.{refusalBehind, refusalOf}
+use Rattle.guard.specs.Guarded.{valueOf}
 
 -- ---- the ends as numbers: 2 ^ 32, 2 ^ 31, 2 ^ 23, 2 ^ 126, 2 ^ 125, -87, 88, 2 ^ 64, 2 ^ -60, 2 ^ 60 and 1024
 
@@ -171,3 +173,12 @@ cases = ends ++ lists
 pub edges : map (λ c. refusalOf (c .op) (c .first) (c .second)) cases ≡ map (λ c. c .refusal) cases
 unfolding refusalBehind judged polynomial logarithm lnWord add sub mul div lt nanBits ofBits toBits ofInt
 edges = refl
+
+-- ---- the value of an answered call: sqrt's of a zero is that zero, sqrt's of any other word and another operation's of a zero are raw
+
+pub values :
+    (valueOf opSqrt 0x0000_0000 0 ∷ valueOf opSqrt 0x8000_0000 0 ∷ valueOf opSqrt 0x0000_0001 0 ∷ valueOf opSqrt 0x4080_0000 0
+    ∷ valueOf opAbs 0x8000_0000 0 ∷ valueOf opSignum 0x8000_0000 0 ∷ valueOf opInv 0x0000_0000 0 ∷ [])
+    ≡ 0x0000_0000 ∷ 0x8000_0000 ∷ 0x1fc0_0000 ∷ 0x4000_0000 ∷ 0x0000_0000 ∷ 0xbf80_0000 ∷ 0x7f00_0000 ∷ []
+unfolding le lt eq nanBits ofBits
+values = refl

@@ -11,7 +11,7 @@ use lib.Ieee.{Float, binary32, isNan, nanBits, ofBits}
 use lib.Ieee.Bits.{nanBits-is}
 use Rattle.format.specs.Fields.{magnitude}
 use Rattle.format.specs.Classes.{isZero}
-use Rattle.format.proofs.Classes.{zero-ends, zero-not-small, zero-not-below}
+use Rattle.format.proofs.Classes.{zero-not-endless, zero-not-small, zero-not-below}
 use Rattle.raw.specs.Raw.{Kernel, none, one, two, kernels, kernelOf, operandsOf, rawOf}
 use Rattle.guard.specs.declared.Guarded.the-variants.{Number}
 use Rattle.guard.specs.declared.Answer.{Answer}
@@ -72,13 +72,16 @@ module _ (op a b : ℕ) (r : Answer) (g : Guards op a b r) where
   pub never-a-nan : a < 2 ^ 32 → b < 2 ^ 32 → (x : Float) → r .result ≡ Number x → isNan x ≡ false
   never-a-nan h k = never-a-nan-of (refusalOf op a b) (valueOf op a b) r g (no-nan op a b h k)
 
--- guarded sqrt of a zero is answered with that zero, whichever sign it has
-zero-passes : (a b : ℕ) → isZero binary32 a ≡ true → NoneHolds (refusals (gateOf opSqrt)) opSqrt a b
+-- no refusal of sqrt holds of a zero
+pub zero-passes : (a b : ℕ) → isZero binary32 a ≡ true → refusalOf opSqrt a b ≡ 0
 unfolding judged
-zero-passes a b z = (zero-ends binary32 a z, (refl, (refl, (zero-not-small binary32 a z, (zero-not-below binary32 a z, (rw (eqb-true (magnitude binary32 a) 0 z), (refl, tt)))))))
+zero-passes a b z =
+    none-given opSqrt a b
+    (zero-not-endless binary32 a z, (refl, (refl, (zero-not-small binary32 a z, (zero-not-below binary32 a z, (rw (eqb-true (magnitude binary32 a) 0 z), (refl, tt)))))))
 
+-- guarded sqrt of a zero is answered with that zero, whichever sign it has
 pub zero-is-its-own-root : (a b : ℕ) (r : Answer) → isZero binary32 a ≡ true → Guards opSqrt a b r → Answered r × (wordOf r ≡ a)
-zero-is-its-own-root a b r z g = let h = none-answered g (none-given opSqrt a b (zero-passes a b z)) in (h, answered-word g h ∙ rw z)
+zero-is-its-own-root a b r z g = let h = none-answered g (zero-passes a b z) in (h, answered-word g h ∙ rw z)
 
 -- ---- by number
 

@@ -11,7 +11,7 @@ ghost use Rattle.float.specs.Engine.{ieee};
 ghost use Rattle.float.specs.Atan.{atanNormWord};
 ghost use Rattle.guard.specs.Operations.{opTrunc, opFract, opFloor, opCeil, opRound, opAbs, opCopysign, opSignum, opSqrt, opInvsqrt, opInv, opRecip, opExp, opLn, opPowi, opPowf, opAtan, opAtan2, opCos, opSin, opHypot};
 ghost use Rattle.guard.specs.Refusals.{refusalOf};
-ghost use Rattle.guard.specs.Guarded.{refusalGiven, wordOf, secondOf, Answered, refusedWith, Gives, valueOf, Guards, GuardsByNumber, GivesParts};
+ghost use Rattle.guard.specs.Guarded.{refusalGiven, wordOf, secondOf, Answered, refusedWith, Gives, Guards, GuardsByNumber, GivesParts};
 use float::F32;
 use float::cast;
 
@@ -152,24 +152,18 @@ pub fn signum(x: F32) -> Answer
     )
 }
 
+// A zero is its own square root.
 pub fn sqrt(x: F32) -> Answer
     ensures gate { λ r. ⌜ Guards opSqrt (x .0) 0 r ⌝ }
     ensures bound { λ r. ⌜ (Answered r → SqrtBound binary32 (x .0) (wordOf r)) ⌝ }
 {
+    if refusal::is_zero(x) {
+        return answered(0, x);
+    }
     answered(
         refusal::first(gate::of(number::SQRT), number::SQRT, x, 0),
-        root(x),
+        x.sqrt(),
     )
-}
-
-// The raw square root, but that a zero is its own.
-fn root(x: F32) -> F32
-    ensures { λ r. ⌜ r .0 ≡ valueOf opSqrt (x .0) 0 ⌝ }
-{
-    if refusal::is_zero(x) {
-        return x;
-    }
-    x.sqrt()
 }
 
 pub fn invsqrt(x: F32) -> Answer
