@@ -176,8 +176,7 @@ edges = refl
 
 -- ---- the value of an answered call: sqrt's of a zero is that zero, sqrt's of any other word and another operation's of a zero are raw
 
-pub values :
-    (valueOf opSqrt 0x0000_0000 0 ∷ valueOf opSqrt 0x8000_0000 0 ∷ valueOf opSqrt 0x0000_0001 0 ∷ valueOf opSqrt 0x4080_0000 0
+pub values : (valueOf opSqrt 0x0000_0000 0 ∷ valueOf opSqrt 0x8000_0000 0 ∷ valueOf opSqrt 0x0000_0001 0 ∷ valueOf opSqrt 0x4080_0000 0
     ∷ valueOf opAbs 0x8000_0000 0 ∷ valueOf opSignum 0x8000_0000 0 ∷ valueOf opInv 0x0000_0000 0 ∷ [])
     ≡ 0x0000_0000 ∷ 0x8000_0000 ∷ 0x1fc0_0000 ∷ 0x4000_0000 ∷ 0x0000_0000 ∷ 0xbf80_0000 ∷ 0x7f00_0000 ∷ []
 unfolding le lt eq nanBits ofBits
