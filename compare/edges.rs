@@ -21,6 +21,7 @@ const ALL: &str = "trunc fract floor ceil round abs copysign signum sqrt invsqrt
 /// Kernels, their two words, and what is said of them.
 type Row = (&'static str, u32, u32, Says);
 
+/// The words of these stand in the midst of the stored list: a new row goes to the end of `LATER`.
 const EDGES: &[Row] = &[
     // 1: infinities and NaN, whatever else holds, and the last words before them
     (ALL, 0x7f80_0000, 0, Refuses(1)),
@@ -197,7 +198,7 @@ const EDGES: &[Row] = &[
     ("powi", 0x4040_0000, 128, Gives(0x7f80_0000)),
 ];
 
-/// More of them. The stored list has their words behind all others, so that the frames that it had stay where they were.
+/// More of them, in the order in which they came. The stored list ends with their words, a row at a time.
 const LATER: &[Row] = &[
     // a zero before the gate and the power, with either sign
     ("powf", 0x0000_0000, 0x7f7f_ffff, Refuses(2)),
@@ -221,10 +222,12 @@ const LATER: &[Row] = &[
     ("powf", 0x3f00_0000, 0x8000_0000, Answers),
     ("powf", 0x3f00_0000, 0x807f_ffff, Answers),
     ("copysign", 0x3f80_0000, 0x8000_0001, Gives(0xbf80_0000)),
-    // elsewhere -0 and the other end of the small numbers
+    // elsewhere zeros and the other end of the small numbers
+    ("trunc fract floor ceil round abs copysign signum exp atan atan_norm cos sin", 0x0000_0000, 0, Answers),
     ("trunc fract floor ceil round abs copysign signum exp atan atan_norm cos sin", 0x8000_0000, 0, Answers),
     ("trunc fract floor ceil round abs copysign signum exp atan atan_norm cos sin", 0x8000_0001, 0, Answers),
     ("trunc fract floor ceil round abs copysign signum exp atan atan_norm cos sin", 0x007f_ffff, 0, Answers),
+    ("atan2 hypot", 0x0000_0000, 0x3f80_0000, Answers),
     ("atan2 hypot", 0x8000_0000, 0x3f80_0000, Answers),
     ("atan2 hypot", 0x3f80_0000, 0x8000_0000, Answers),
 ];
@@ -252,18 +255,14 @@ fn rows(list: &'static [Row]) -> impl Iterator<Item = Row> {
     list.iter().flat_map(|&(names, a, b, says)| names.split(' ').map(move |name| (name, a, b, says)))
 }
 
-fn words_in(list: &'static [Row], name: &str) -> Vec<(u32, u32)> {
-    rows(list).filter(|row| row.0 == name).map(|(_, a, b, _)| (a, b)).collect()
-}
-
-/// The words that the list has for the kernel of this name.
+/// The words that the first list has for the kernel of this name.
 pub fn words_of(name: &str) -> Vec<(u32, u32)> {
-    words_in(EDGES, name)
+    rows(EDGES).filter(|row| row.0 == name).map(|(_, a, b, _)| (a, b)).collect()
 }
 
-/// And those that came later.
-pub fn later_words_of(name: &str) -> Vec<(u32, u32)> {
-    words_in(LATER, name)
+/// Those that came later, each with the name of its kernel.
+pub fn later() -> impl Iterator<Item = (&'static str, u32, u32)> {
+    rows(LATER).map(|(name, a, b, _)| (name, a, b))
 }
 
 /// Tries the list on the kernels that are wanted. This program's own gates have to be those of the list.

@@ -90,6 +90,7 @@ impl Gate {
             0
         }
     }
+
     /// Whether the answer to this first word is the word itself, and not the crate's.
     #[inline(always)]
     pub fn keeps(&self, a: u32) -> bool {

@@ -42,7 +42,7 @@ impl Lines {
     }
 
     /// A frame of this operation whose first word is a zero or a small number: it has an exponent field of 0.
-    pub fn small(&mut self, op: u32, takes: Takes) -> Vec<u8> {
+    pub fn low(&mut self, op: u32, takes: Takes) -> Vec<u8> {
         let (a, b) = self.random.operands(takes, &self.edges);
         frame(op, a & 0x807f_ffff, b)
     }

@@ -9,11 +9,11 @@ use crate::steps;
 use std::io;
 use std::path::Path;
 
-/// The frames that the list had at first. They stay as they are and where they are, so that a change of an answer shows as one.
+/// The first frames of the list. They stay as they are and where they are, so that a change of an answer shows as one.
 const FRAMES: usize = 26_500;
 
-/// The frames that stand behind them.
-const LATER: usize = 500;
+/// Frames of zeros and small numbers that stand behind them. The edges that came later end the list.
+const LOW: usize = 318;
 
 /// More short lines in a row than a program has room for the answers to, and so few bytes that one read brings them all.
 const SHORT: usize = 6_500;
@@ -122,24 +122,22 @@ fn unused(reader: &Reader) -> Vec<Vec<u8>> {
     one_operand.flat_map(|(op, _)| words.map(|(a, b)| frame(op, a, b))).collect()
 }
 
-/// The words that are listed for a kernel, guarded and raw.
-fn listed(reader: &Reader, words: impl Fn(&str) -> Vec<(u32, u32)>) -> Vec<Vec<u8>> {
-    reader.known().into_iter().flat_map(|(op, kernel)| words(kernel.name).into_iter().map(move |(a, b)| frame(op, a, b))).collect()
-}
-
-/// Both sides of each edge of a gate and of each test within a kernel.
+/// Both sides of each edge of a gate and of each test within a kernel, guarded and raw.
 fn edges(reader: &Reader) -> Vec<Vec<u8>> {
-    listed(reader, |name| edges::words_of(name).into_iter().chain(steps::words_of(name)).collect())
+    let words = |name| edges::words_of(name).into_iter().chain(steps::words_of(name));
+    reader.known().into_iter().flat_map(|(op, kernel)| words(kernel.name).map(move |(a, b)| frame(op, a, b))).collect()
 }
 
-/// The edges that came later. Zeros and small numbers, for every operation in turn, fill what is left.
-fn later(reader: &Reader) -> Vec<Vec<u8>> {
-    let mut list = listed(reader, edges::later_words_of);
+/// Zeros and small numbers, for every operation in turn.
+fn low(reader: &Reader) -> Vec<Vec<u8>> {
     let mut random = Lines::new(reader, 13);
-    for (op, kernel) in reader.known().into_iter().cycle().take(LATER - list.len()) {
-        list.push(random.small(op, kernel.takes));
-    }
-    list
+    reader.known().into_iter().cycle().take(LOW).map(|(op, kernel)| random.low(op, kernel.takes)).collect()
+}
+
+/// The edges that came later, a row at a time, guarded and raw.
+fn later(reader: &Reader) -> Vec<Vec<u8>> {
+    let known = reader.known();
+    edges::later().flat_map(|(name, a, b)| known.iter().filter(move |known| known.1.name == name).map(move |known| frame(known.0, a, b))).collect()
 }
 
 /// Lines of no byte or one, in a row.
@@ -153,7 +151,7 @@ fn long(i: usize) -> Vec<u8> {
     frame(0x09, 0x4080_0000, 0).iter().cycle().take(READ + 37 * i).copied().collect()
 }
 
-/// The whole list. Random words of every operation in turn fill it up to what came later.
+/// The whole list. Random words of every operation in turn fill its first part.
 fn list(reader: &Reader) -> Vec<Vec<u8>> {
     let mut list = Vec::new();
     for (line, answer) in EXAMPLES {
@@ -169,7 +167,7 @@ fn list(reader: &Reader) -> Vec<Vec<u8>> {
         }
         list.push(random.of(op, kernel.takes));
     }
-    list.extend(later(reader));
+    list.extend([low(reader), later(reader)].concat());
     list
 }
 

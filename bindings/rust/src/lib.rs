@@ -17,9 +17,10 @@
 //!
 //! Each says what it takes. An infinity or a NaN is refused by all of them with [`Refusal::NotFinite`]. "Above 0" and "not 0"
 //! leave out the numbers that are not 0 and too small to be normal, those of a size under 2^-126: they are refused with
-//! [`Refusal::Small`], and a zero with [`Refusal::Zero`].
+//! [`Refusal::Small`], and a zero, where it is not taken, with [`Refusal::Zero`].
 //!
-//! The kernels are those of micromath, to the bit: quick estimates, some of them percents off. [`raw`] gives what micromath
+//! The kernels are those of micromath, to the bit, but that [`sqrt`] of a zero is that zero: quick estimates, some of them
+//! percents off. [`raw`] gives what micromath
 //! gives for every word, NaN and infinity among them, but for four cases that docs/DIFFERENCES.md lists. [`call`] takes any
 //! operation by its number, [`strip`] the same over whole lists, and [`answer`] a frame, which is a line of text. Nothing is
 //! kept between calls, so they may be made from any thread.

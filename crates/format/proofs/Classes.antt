@@ -87,34 +87,34 @@ module _ (f : Format) (w : ℕ) where
     zero-bound = record { finite = finite-of zero-not-endless; sign = refl; least = rw no-units (omega arith); most = rw no-units (omega arith) }
 
 -- ---- the classes of the words beside each end, in both formats: both zeros, the first and the last small word, the first and the last
--- normal one, the infinities and the NaN next to them
+-- normal one, the infinities, and the first and the last NaN
 
 abbrev pub words32 : List ℕ
 words32 =
     0x0000_0000 ∷ 0x8000_0000
     ∷ 0x0000_0001 ∷ 0x8000_0001 ∷ 0x007f_ffff ∷ 0x807f_ffff
     ∷ 0x0080_0000 ∷ 0x8080_0000 ∷ 0x7f7f_ffff ∷ 0xff7f_ffff
-    ∷ 0x7f80_0000 ∷ 0xff80_0000 ∷ 0x7f80_0001 ∷ 0xff80_0001 ∷ []
+    ∷ 0x7f80_0000 ∷ 0xff80_0000 ∷ 0x7f80_0001 ∷ 0xff80_0001 ∷ 0x7fff_ffff ∷ 0xffff_ffff ∷ []
 
 abbrev pub words64 : List ℕ
 words64 =
     0x0000_0000_0000_0000 ∷ 0x8000_0000_0000_0000
     ∷ 0x0000_0000_0000_0001 ∷ 0x8000_0000_0000_0001 ∷ 0x000f_ffff_ffff_ffff ∷ 0x800f_ffff_ffff_ffff
     ∷ 0x0010_0000_0000_0000 ∷ 0x8010_0000_0000_0000 ∷ 0x7fef_ffff_ffff_ffff ∷ 0xffef_ffff_ffff_ffff
-    ∷ 0x7ff0_0000_0000_0000 ∷ 0xfff0_0000_0000_0000 ∷ 0x7ff0_0000_0000_0001 ∷ 0xfff0_0000_0000_0001 ∷ []
+    ∷ 0x7ff0_0000_0000_0000 ∷ 0xfff0_0000_0000_0000 ∷ 0x7ff0_0000_0000_0001 ∷ 0xfff0_0000_0000_0001 ∷ 0x7fff_ffff_ffff_ffff ∷ 0xffff_ffff_ffff_ffff ∷ []
 
--- which of the fourteen a test holds of, in either format alike
+-- which of them a test holds of, in either format alike
 abbrev Marks : (Format → ℕ → Bool) → List Bool → Type 0
 Marks test marks = (map (test binary32) words32 ≡ marks) × (map (test binary64) words64 ≡ marks)
 
-pub zeros : Marks isZero (true ∷ true ∷ false ∷ false ∷ false ∷ false ∷ false ∷ false ∷ false ∷ false ∷ false ∷ false ∷ false ∷ false ∷ [])
+pub zeros : Marks isZero (true ∷ true ∷ false ∷ false ∷ false ∷ false ∷ false ∷ false ∷ false ∷ false ∷ false ∷ false ∷ false ∷ false ∷ false ∷ false ∷ [])
 zeros = (refl, refl)
 
-pub smalls : Marks isSmall (false ∷ false ∷ true ∷ true ∷ true ∷ true ∷ false ∷ false ∷ false ∷ false ∷ false ∷ false ∷ false ∷ false ∷ [])
+pub smalls : Marks isSmall (false ∷ false ∷ true ∷ true ∷ true ∷ true ∷ false ∷ false ∷ false ∷ false ∷ false ∷ false ∷ false ∷ false ∷ false ∷ false ∷ [])
 smalls = (refl, refl)
 
-pub endless : Marks isEndless (false ∷ false ∷ false ∷ false ∷ false ∷ false ∷ false ∷ false ∷ false ∷ false ∷ true ∷ true ∷ true ∷ true ∷ [])
+pub endless : Marks isEndless (false ∷ false ∷ false ∷ false ∷ false ∷ false ∷ false ∷ false ∷ false ∷ false ∷ true ∷ true ∷ true ∷ true ∷ true ∷ true ∷ [])
 endless = (refl, refl)
 
-pub below-zeros : Marks isBelowZero (false ∷ false ∷ false ∷ true ∷ false ∷ true ∷ false ∷ true ∷ false ∷ true ∷ false ∷ true ∷ false ∷ true ∷ [])
+pub below-zeros : Marks isBelowZero (false ∷ false ∷ false ∷ true ∷ false ∷ true ∷ false ∷ true ∷ false ∷ true ∷ false ∷ true ∷ false ∷ true ∷ false ∷ true ∷ [])
 below-zeros = (refl, refl)

@@ -18,6 +18,6 @@ isZero f w = eqb (magnitude f w) 0
 abbrev pub isSmall : Format → ℕ → Bool
 isSmall f w = eqb (exponent f w) 0 && not (isZero f w)
 
--- the sign bit is set, and -0 is not below 0
+-- the sign bit is set, and it is no zero; a NaN with it too, which refusal 1 turns away before
 abbrev pub isBelowZero : Format → ℕ → Bool
 isBelowZero f w = negative f w && not (isZero f w)

@@ -3,14 +3,14 @@
 -- Assumes nothing.
 use Prim.Native.Nat.{ℕ, _+_}
 use mathlib.Core.Path.{_≡_, refl}
-use mathlib.Core.Bool.{true, false}
+use mathlib.Core.Bool.{Bool, true, false, cond}
 use mathlib.Core.List.{List, [], _∷_, _++_, map}
 use lib.IntN.{pos, negsuc}
 use lib.Ieee.{fin, binary32, add, sub, mul, div, lt, le, eq, nanBits, ofBits, toBits, ofInt}
 use Rattle.float.specs.Ln.{polynomial, logarithm, lnWord}
 use Rattle.guard.specs.Operations.{opTrunc, opFract, opFloor, opCeil, opRound, opAbs, opCopysign, opSignum, opSqrt, opInvsqrt, opInv, opRecip, opExp, opLn, opPowi, opPowf, opAtan, opAtan2, opCos, opSin, opHypot}
 use Rattle.guard.specs.Gates.{low, high, gateOf, judged}
-use Rattle.guard.specs.Refusals.{refusalBehind, refusalOf}
+use Rattle.guard.specs.Refusals.{twoFloats, refusesZero, refusesSmall, refusesSign, refusalBehind, refusalOf}
 use Rattle.guard.specs.Guarded.{valueOf}
 
 -- ---- the ends as numbers: 2 ^ 32, 2 ^ 31, 2 ^ 23, 2 ^ 126, 2 ^ 125, -87, 88, 2 ^ 64, 2 ^ -60, 2 ^ 60 and 1024
@@ -33,6 +33,27 @@ pub ends-are-numbers : map (ofBits binary32)
     ∷ fin false 1 (pos 64) ∷ fin false 1 (negsuc 59) ∷ fin false 1 (pos 60) ∷ fin false 1 (negsuc 59) ∷ fin false 1 (pos 60) ∷ fin false 1 (pos 10) ∷ fin false 1 (pos 10) ∷ []
 unfolding ofBits
 ends-are-numbers = refl
+
+-- ---- the operations that a refusal is about, of all
+
+abbrev all : List ℕ
+all = opTrunc ∷ opFract ∷ opFloor ∷ opCeil ∷ opRound ∷ opAbs ∷ opCopysign ∷ opSignum ∷ opSqrt ∷ opInvsqrt ∷ opInv ∷ opRecip ∷ opExp ∷ opLn ∷ opPowi ∷ opPowf ∷ opAtan ∷ opAtan2 ∷ opCos ∷ opSin ∷ opHypot ∷ []
+
+abbrev kept : (ℕ → Bool) → List ℕ → List ℕ
+kept p [] = []
+kept p (op ∷ ops) = cond (p op) (op ∷ kept p ops) (kept p ops)
+
+pub of-two-floats : kept twoFloats all ≡ opCopysign ∷ opPowf ∷ opAtan2 ∷ opHypot ∷ []
+of-two-floats = refl
+
+pub of-zeros : kept refusesZero all ≡ opInvsqrt ∷ opInv ∷ opRecip ∷ opLn ∷ opPowi ∷ opPowf ∷ []
+of-zeros = refl
+
+pub of-small : kept refusesSmall all ≡ opSqrt ∷ opInvsqrt ∷ opInv ∷ opRecip ∷ opLn ∷ opPowi ∷ opPowf ∷ []
+of-small = refl
+
+pub of-signs : kept refusesSign all ≡ opSqrt ∷ opInvsqrt ∷ opInv ∷ opLn ∷ opPowf ∷ []
+of-signs = refl
 
 -- ---- an operation, its two words, and the refusal
 
@@ -140,9 +161,11 @@ each ops a b n = map (λ op. at op a b n) ops
 abbrev pub lists : List Case
 lists =
     -- 1: the first operand of each, before anything else, and the second of four
-    each (opTrunc ∷ opFract ∷ opFloor ∷ opCeil ∷ opRound ∷ opAbs ∷ opCopysign ∷ opSignum ∷ opSqrt ∷ opInvsqrt ∷ opInv ∷ opRecip ∷ opExp ∷ opLn ∷ opPowi ∷ opPowf ∷ opAtan ∷ opAtan2 ∷ opCos ∷ opSin ∷ opHypot ∷ []) 0xff80_0000 0x0000_0000 1
+    each all 0xff80_0000 0x0000_0000 1
     ++ each (opCopysign ∷ opPowf ∷ opAtan2 ∷ opHypot ∷ []) 0x3f80_0000 0x7f80_0000 1
     ++ each (opCopysign ∷ opAtan2 ∷ opHypot ∷ opPowf ∷ []) 0x0000_0000 0x7f80_0000 1
+    ++ each (opPowf ∷ []) 0x8000_0001 0x7f80_0000 1
+    ++ each (opPowf ∷ []) 0xc000_0000 0xff80_0000 1
     ++ each (opTrunc ∷ opFract ∷ opFloor ∷ opCeil ∷ opRound ∷ opAbs ∷ opSignum ∷ opSqrt ∷ opInvsqrt ∷ opInv ∷ opRecip ∷ opExp ∷ opLn ∷ opAtan ∷ opCos ∷ opSin ∷ []) 0x4000_0000 0xff80_0000 0
     -- 2: a zero, before the gate and the power; sqrt answers it, with either sign
     ++ each (opInvsqrt ∷ opInv ∷ opRecip ∷ opLn ∷ opPowi ∷ opPowf ∷ []) 0x0000_0000 0x0000_0000 2

@@ -25,11 +25,11 @@ every op = true
 abbrev pub twoFloats : ℕ → Bool
 twoFloats = among (opCopysign ∷ opPowf ∷ opAtan2 ∷ opHypot ∷ [])
 
--- those that have no answer for a zero
+-- these have no answer for a zero
 abbrev pub refusesZero : ℕ → Bool
 refusesZero = among (opInvsqrt ∷ opInv ∷ opRecip ∷ opLn ∷ opPowi ∷ opPowf ∷ [])
 
--- and sqrt, which has one
+-- these and sqrt take no small number; sqrt answers a zero
 abbrev pub refusesSmall : ℕ → Bool
 refusesSmall op = eqb op opSqrt || refusesZero op
 
