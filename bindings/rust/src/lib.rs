@@ -20,10 +20,9 @@
 //! [`Refusal::Small`], and a zero, where it is not taken, with [`Refusal::Zero`].
 //!
 //! The kernels are those of micromath, to the bit, but that [`sqrt`] of a zero is that zero: quick estimates, some of them
-//! percents off. [`raw`] gives what micromath
-//! gives for every word, NaN and infinity among them, but for four cases that docs/DIFFERENCES.md lists. [`call`] takes any
-//! operation by its number, [`strip`] the same over whole lists, and [`answer`] a frame, which is a line of text. Nothing is
-//! kept between calls, so they may be made from any thread.
+//! percents off. [`raw`] gives what micromath gives for every word, NaN and infinity among them, but for four cases that
+//! docs/DIFFERENCES.md lists. [`call`] takes any operation by its number, [`strip`] the same over whole lists, and [`answer`]
+//! a frame, which is a line of text. Nothing is kept between calls, so they may be made from any thread.
 //!
 //! The build script finds the library, or proves and builds it, which takes a minute or two the first time; where it cannot, it
 //! says what is missing.
