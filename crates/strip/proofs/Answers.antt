@@ -5,12 +5,13 @@ use native.Mathlib.Nat.{zero-add, div-eq-of-lt, mod-eq-of-lt}
 use native.Mathlib.Omega.{arith}
 use mathlib.Core.Path.{_≡_, refl, sym, ap, subst, _∙_}
 use mathlib.Core.Logic.{_⊎_, inl, inr, ⊎-elim}
-use mathlib.Core.Bool.{Bool, true, false, cond, _&&_}
+use mathlib.Core.Bool.{Bool, true, false, cond, not, _&&_, _||_}
 use mathlib.Core.List.{List, [], _∷_}
 use borrow.Author.Tests.{le-leb, lt-leb, ne-eqb, leb-true, leb-false, ltb-true, ltb-false, eqb-true, eqb-false}
-use lib.Dec.{leb, ltb, eqb}
+use lib.Dec.{T, leb, ltb, eqb}
 use lib.ListN.{List·getD-eq-default}
 use lib.Ieee.{binary32}
+use lib.Ieee.Fits.{and-l, and-r}
 use Rattle.format.specs.Classes.{isZero}
 use Rattle.raw.specs.Raw.{Kernel, none, one, two, kernels, kernelOf, operandsOf, rawOf}
 use Rattle.guard.specs.Operations.{opSqrt}
@@ -39,30 +40,28 @@ one-or-two (two f) h = inr refl
 
 -- ---- the refusals of the list
 
-abbrev Neither : ℕ → Type 0
-Neither n = (n ≡ 6 → ⊥) × (n ≡ 7 → ⊥)
+-- which are of a number and of a frame
+abbrev neither : ℕ → Bool
+neither n = not (eqb n 6 || eqb n 7)
 
-low : (n : ℕ) → n < 6 → Neither n
-low n h = ((λ e. omega arith), (λ e. omega arith))
+told : (n : ℕ) → T (neither n) → (n ≡ 6 → ⊥) × (n ≡ 7 → ⊥)
+told n h = ((λ e. subst (λ (m : ℕ). T (neither m)) e h), (λ e. subst (λ (m : ℕ). T (neither m)) e h))
 
-nine : Neither 9
-nine = ((λ e. omega arith), (λ e. omega arith))
+abbrev clear : List Refusal → Bool
+clear [] = true
+clear (r ∷ rs) = neither (r .number) && clear rs
 
-abbrev Every : List Refusal → Type 0
-Every [] = Unit
-Every (r ∷ rs) = Neither (r .number) × Every rs
-
-first-of : (op a b : ℕ) (rs : List Refusal) → Every rs → Neither (firstOf rs op a b)
-first-of op a b [] h = low 0 (omega arith)
-first-of op a b (r ∷ rs) h = go (holds r op a b) (first-of op a b rs (h .1))
+first-of : (op a b : ℕ) (rs : List Refusal) → T (clear rs) → T (neither (firstOf rs op a b))
+first-of op a b [] h = tt
+first-of op a b (r ∷ rs) h = go (holds r op a b) (first-of op a b rs (and-r (neither (r .number)) (clear rs) h))
   where
-    go : (t : Bool) → Neither (firstOf rs op a b) → Neither (cond t (r .number) (firstOf rs op a b))
-    go true k = h .0
+    go : (t : Bool) → T (neither (firstOf rs op a b)) → T (neither (cond t (r .number) (firstOf rs op a b)))
+    go true k = and-l (neither (r .number)) (clear rs) h
     go false k = k
 
-listed : (op a b : ℕ) → Neither (refusalOf op a b)
+listed : (op a b : ℕ) → T (neither (refusalOf op a b))
 unfolding refusalBehind
-listed op a b = first-of op a b (refusals (gateOf op)) (low 1 (omega arith), (low 1 (omega arith), (low 2 (omega arith), (nine, (low 3 (omega arith), (low 4 (omega arith), (low 5 (omega arith), tt)))))))
+listed op a b = first-of op a b (refusals (gateOf op)) tt
 
 -- ---- what stands at a place
 
@@ -129,9 +128,11 @@ module _ (op a b : ℕ) (known : operandsIn op ≡ 0 → ⊥) where
     pub refused-is-zero : (refusalAt op a b ≡ 0 → ⊥) → wordAt op a b ≡ 0
     refused-is-zero h = ⊎-elim (λ e. absurd (h e)) (λ r. r .1) shown
 
-    -- and it is neither 6 nor 7, which are of a number and of a frame
+    -- and it is neither 6 nor 7
     pub never-6-or-7 : (refusalAt op a b ≡ 6 → ⊥) × (refusalAt op a b ≡ 7 → ⊥)
-    never-6-or-7 = ⊎-elim (λ e. subst Neither (sym e) (low 0 (omega arith))) (λ r. subst Neither (sym (r .0)) (listed op a b)) shown
+    never-6-or-7 =
+        told (refusalAt op a b)
+        (⊎-elim (λ e. subst (λ (n : ℕ). T (neither n)) (sym e) tt) (λ r. subst (λ (n : ℕ). T (neither n)) (sym (r .0)) (listed op a b)) shown)
 
 -- ---- which numbers are operations
 
