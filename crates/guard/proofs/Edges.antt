@@ -164,6 +164,7 @@ lists =
     each all 0xff80_0000 0x0000_0000 1
     ++ each (opCopysign ∷ opPowf ∷ opAtan2 ∷ opHypot ∷ []) 0x3f80_0000 0x7f80_0000 1
     ++ each (opCopysign ∷ opAtan2 ∷ opHypot ∷ opPowf ∷ []) 0x0000_0000 0x7f80_0000 1
+    ++ each (opPowi ∷ []) 0x7f80_0000 0x0010_0001 1
     ++ each (opPowf ∷ []) 0x8000_0001 0x7f80_0000 1
     ++ each (opPowf ∷ []) 0xc000_0000 0xff80_0000 1
     ++ each (opTrunc ∷ opFract ∷ opFloor ∷ opCeil ∷ opRound ∷ opAbs ∷ opSignum ∷ opSqrt ∷ opInvsqrt ∷ opInv ∷ opRecip ∷ opExp ∷ opLn ∷ opAtan ∷ opCos ∷ opSin ∷ []) 0x4000_0000 0xff80_0000 0
