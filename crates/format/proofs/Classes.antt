@@ -21,10 +21,6 @@ ones-not-zero : (f : Format) → eqb 0 (ones f) ≡ false
 ones-not-zero binary32 = refl
 ones-not-zero binary64 = refl
 
-and-false : (t : Bool) → (t && false) ≡ false
-and-false true = refl
-and-false false = refl
-
 module _ (f : Format) (w : ℕ) where
   pub finite-of : isEndless f w ≡ false → Finite f w
   finite-of n = go (eq-or-lt-of-le (le-of-suc-le-suc (exponent-lt f w)))
@@ -77,10 +73,14 @@ module _ (f : Format) (w : ℕ) where
     zero-not-endless = rw field-of-zero (ones-not-zero f)
 
     pub zero-not-small : isSmall f w ≡ false
-    zero-not-small = rw z (and-false (eqb (exponent f w) 0))
+    zero-not-small = rw (field-of-zero, z)
 
     pub zero-not-below : isBelowZero f w ≡ false
-    zero-not-below = rw z (and-false (negative f w))
+    zero-not-below = rw z (go (negative f w))
+      where
+        go : (t : Bool) → (t && false) ≡ false
+        go true = refl
+        go false = refl
 
     -- the square of a zero is itself
     pub zero-bound : SqrtBound f w w

@@ -39,21 +39,37 @@ ends-are-numbers = refl
 abbrev all : List ℕ
 all = opTrunc ∷ opFract ∷ opFloor ∷ opCeil ∷ opRound ∷ opAbs ∷ opCopysign ∷ opSignum ∷ opSqrt ∷ opInvsqrt ∷ opInv ∷ opRecip ∷ opExp ∷ opLn ∷ opPowi ∷ opPowf ∷ opAtan ∷ opAtan2 ∷ opCos ∷ opSin ∷ opHypot ∷ []
 
+abbrev ofTwoFloats : List ℕ
+ofTwoFloats = opCopysign ∷ opPowf ∷ opAtan2 ∷ opHypot ∷ []
+
+abbrev ofZeros : List ℕ
+ofZeros = opInvsqrt ∷ opInv ∷ opRecip ∷ opLn ∷ opPowi ∷ opPowf ∷ []
+
+abbrev ofSmall : List ℕ
+ofSmall = opSqrt ∷ ofZeros
+
+-- that take both zeros and small numbers
+abbrev ofNeither : List ℕ
+ofNeither = opTrunc ∷ opFract ∷ opFloor ∷ opCeil ∷ opRound ∷ opAbs ∷ opCopysign ∷ opSignum ∷ opExp ∷ opAtan ∷ opAtan2 ∷ opCos ∷ opSin ∷ opHypot ∷ []
+
+abbrev ofSigns : List ℕ
+ofSigns = opSqrt ∷ opInvsqrt ∷ opInv ∷ opLn ∷ opPowf ∷ []
+
 abbrev kept : (ℕ → Bool) → List ℕ → List ℕ
 kept p [] = []
 kept p (op ∷ ops) = cond (p op) (op ∷ kept p ops) (kept p ops)
 
-pub of-two-floats : kept twoFloats all ≡ opCopysign ∷ opPowf ∷ opAtan2 ∷ opHypot ∷ []
-of-two-floats = refl
+pub two-floats : kept twoFloats all ≡ ofTwoFloats
+two-floats = refl
 
-pub of-zeros : kept refusesZero all ≡ opInvsqrt ∷ opInv ∷ opRecip ∷ opLn ∷ opPowi ∷ opPowf ∷ []
-of-zeros = refl
+pub zero-refusers : kept refusesZero all ≡ ofZeros
+zero-refusers = refl
 
-pub of-small : kept refusesSmall all ≡ opSqrt ∷ opInvsqrt ∷ opInv ∷ opRecip ∷ opLn ∷ opPowi ∷ opPowf ∷ []
-of-small = refl
+pub small-refusers : kept refusesSmall all ≡ ofSmall
+small-refusers = refl
 
-pub of-signs : kept refusesSign all ≡ opSqrt ∷ opInvsqrt ∷ opInv ∷ opLn ∷ opPowf ∷ []
-of-signs = refl
+pub sign-refusers : kept refusesSign all ≡ ofSigns
+sign-refusers = refl
 
 -- ---- an operation, its two words, and the refusal
 
@@ -162,27 +178,27 @@ abbrev pub lists : List Case
 lists =
     -- 1: the first operand of each, before anything else, and the second of four
     each all 0xff80_0000 0x0000_0000 1
-    ++ each (opCopysign ∷ opPowf ∷ opAtan2 ∷ opHypot ∷ []) 0x3f80_0000 0x7f80_0000 1
-    ++ each (opCopysign ∷ opAtan2 ∷ opHypot ∷ opPowf ∷ []) 0x0000_0000 0x7f80_0000 1
+    ++ each ofTwoFloats 0x3f80_0000 0x7f80_0000 1
+    ++ each ofTwoFloats 0x0000_0000 0x7f80_0000 1
     ++ each (opPowi ∷ []) 0x7f80_0000 0x0010_0001 1
     ++ each (opPowf ∷ []) 0x8000_0001 0x7f80_0000 1
     ++ each (opPowf ∷ []) 0xc000_0000 0xff80_0000 1
     ++ each (opTrunc ∷ opFract ∷ opFloor ∷ opCeil ∷ opRound ∷ opAbs ∷ opSignum ∷ opSqrt ∷ opInvsqrt ∷ opInv ∷ opRecip ∷ opExp ∷ opLn ∷ opAtan ∷ opCos ∷ opSin ∷ []) 0x4000_0000 0xff80_0000 0
     -- 2: a zero, before the gate and the power; sqrt answers it, with either sign
-    ++ each (opInvsqrt ∷ opInv ∷ opRecip ∷ opLn ∷ opPowi ∷ opPowf ∷ []) 0x0000_0000 0x0000_0000 2
-    ++ each (opInvsqrt ∷ opInv ∷ opRecip ∷ opLn ∷ opPowi ∷ opPowf ∷ []) 0x8000_0000 0x7f7f_ffff 2
-    ++ each (opTrunc ∷ opFract ∷ opFloor ∷ opCeil ∷ opRound ∷ opAbs ∷ opCopysign ∷ opSignum ∷ opSqrt ∷ opExp ∷ opAtan ∷ opAtan2 ∷ opCos ∷ opSin ∷ opHypot ∷ []) 0x0000_0000 0x3f80_0000 0
-    ++ each (opTrunc ∷ opFract ∷ opFloor ∷ opCeil ∷ opRound ∷ opAbs ∷ opCopysign ∷ opSignum ∷ opSqrt ∷ opExp ∷ opAtan ∷ opAtan2 ∷ opCos ∷ opSin ∷ opHypot ∷ []) 0x8000_0000 0x3f80_0000 0
+    ++ each ofZeros 0x0000_0000 0x0000_0000 2
+    ++ each ofZeros 0x8000_0000 0x7f7f_ffff 2
+    ++ each (opSqrt ∷ ofNeither) 0x0000_0000 0x3f80_0000 0
+    ++ each (opSqrt ∷ ofNeither) 0x8000_0000 0x3f80_0000 0
     -- 9: a small first operand, from the words beside the zeros to those beside the normal numbers, before the sign, the gate and the power
-    ++ each (opSqrt ∷ opInvsqrt ∷ opInv ∷ opRecip ∷ opLn ∷ opPowi ∷ opPowf ∷ []) 0x0000_0001 0x0000_0000 9
-    ++ each (opSqrt ∷ opInvsqrt ∷ opInv ∷ opRecip ∷ opLn ∷ opPowi ∷ opPowf ∷ []) 0x007f_ffff 0x0010_0001 9
-    ++ each (opSqrt ∷ opInvsqrt ∷ opInv ∷ opRecip ∷ opLn ∷ opPowi ∷ opPowf ∷ []) 0x8000_0001 0x0000_0000 9
-    ++ each (opSqrt ∷ opInvsqrt ∷ opInv ∷ opRecip ∷ opLn ∷ opPowi ∷ opPowf ∷ []) 0x807f_ffff 0x7f7f_ffff 9
-    ++ each (opSqrt ∷ opInvsqrt ∷ opInv ∷ opRecip ∷ opLn ∷ opPowi ∷ opPowf ∷ []) 0x0080_0000 0x0000_0001 0
+    ++ each ofSmall 0x0000_0001 0x0000_0000 9
+    ++ each ofSmall 0x007f_ffff 0x0010_0001 9
+    ++ each ofSmall 0x8000_0001 0x0000_0000 9
+    ++ each ofSmall 0x807f_ffff 0x7f7f_ffff 9
+    ++ each ofSmall 0x0080_0000 0x0000_0001 0
     ++ each (opRecip ∷ opPowi ∷ []) 0x8080_0000 0x0000_0001 0
-    ++ each (opTrunc ∷ opFract ∷ opFloor ∷ opCeil ∷ opRound ∷ opAbs ∷ opCopysign ∷ opSignum ∷ opExp ∷ opAtan ∷ opAtan2 ∷ opCos ∷ opSin ∷ opHypot ∷ []) 0x807f_ffff 0x3f80_0000 0
+    ++ each ofNeither 0x807f_ffff 0x3f80_0000 0
     -- 3: a first operand below 0
-    ++ each (opSqrt ∷ opInvsqrt ∷ opInv ∷ opLn ∷ opPowf ∷ []) 0x8080_0000 0x0000_0000 3
+    ++ each ofSigns 0x8080_0000 0x0000_0000 3
     ++ each (opTrunc ∷ opFract ∷ opFloor ∷ opCeil ∷ opRound ∷ opAbs ∷ opCopysign ∷ opSignum ∷ opRecip ∷ opExp ∷ opPowi ∷ opAtan ∷ opAtan2 ∷ opCos ∷ opSin ∷ opHypot ∷ []) 0xbf80_0000 0x0000_0001 0
     -- 4: no gate
     ++ each (opAbs ∷ opCopysign ∷ opSignum ∷ opSqrt ∷ opInvsqrt ∷ opLn ∷ opPowi ∷ []) 0x7f7f_ffff 0x0000_0001 0

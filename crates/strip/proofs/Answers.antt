@@ -21,7 +21,7 @@ use Rattle.guard.specs.Guarded.{valueOf}
 use Rattle.guard.proofs.Laws.{one-word, second-word-is-ignored}
 use Rattle.frame.specs.Words.{packed, answerWords, kernelNumber, operationWords, shapeOf, framed}
 use Rattle.strip.specs.Strip.{operandsIn, used, placeWords, wordAt, refusalAt}
-use Rattle.strip.proofs.Words.{raw-word}
+use Rattle.strip.proofs.Words.{either, raw-word}
 
 -- ---- an operation, whatever stands in the place of a second word that it does not read
 
@@ -106,11 +106,7 @@ module _ (op a b : ℕ) (known : operandsIn op ≡ 0 → ⊥) where
     raw-place h = alone (rawOf (kernelOf (op - 0x80)) a b) (raw-word (op - 0x80) a b a-lt b-lt) (rw (le-leb 0x80 op h))
 
     value-word : valueOf op a b < 2 ^ 32
-    value-word = go (eqb op opSqrt && isZero binary32 a)
-      where
-        go : (t : Bool) → cond t a (rawOf (kernelOf op) a b) < 2 ^ 32
-        go true = a-lt
-        go false = raw-word op a b a-lt b-lt
+    value-word = either (eqb op opSqrt && isZero binary32 a) a (rawOf (kernelOf op) a b) a-lt (raw-word op a b a-lt b-lt)
 
     pub answered-place : op < 0x80 → refusalOf op a b ≡ 0 → (refusalAt op a b ≡ 0) × (wordAt op a b ≡ valueOf op a b)
     answered-place h e = alone (valueOf op a b) value-word (rw (lt-leb 0x80 op h, e) (zero-add (valueOf op a b)))

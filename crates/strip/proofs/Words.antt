@@ -38,7 +38,7 @@ use Rattle.guard.proofs.Each.{Each, done, _⨟_, of-each}
 abbrev Word : ℕ → Type 0
 Word w = w < 2 ^ 32
 
-either : (t : Bool) (x y : ℕ) → Word x → Word y → Word (cond t x y)
+pub either : (t : Bool) (x y : ℕ) → Word x → Word y → Word (cond t x y)
 either true x y h k = h
 either false x y h k = k
 
