@@ -4,7 +4,7 @@ use mathlib.Core.Bool.{true}
 use mathlib.Core.List.{List, [], _∷_}
 use mathlib.Core.Path.{_≡_, refl}
 use lib.IntN.{pos, negsuc}
-use lib.Ieee.{binary32, add, sub, mul, div, lt, le, eq, nanBits, ofBits, toBits, ofInt, toSigned}
+use lib.Ieee.{binary32, add, sub, mul, div, rem, lt, le, eq, nanBits, ofBits, toBits, ofInt, toSigned}
 use Rattle.format.specs.Sign.{absWord, copysignWord, turnedWord, signumWord}
 use Rattle.format.specs.Exponent.{setExponentWord}
 use Rattle.format.specs.Parts.{truncWord, fractWord, written}
@@ -20,6 +20,11 @@ use Rattle.float.specs.Cos.{cosWord, sinWord}
 use Rattle.float.specs.Atan.{atanNormWord, atanWord}
 use Rattle.float.specs.Atan2.{quarters, atan2Word}
 use Rattle.float.specs.Hypot.{hypotWord}
+use Rattle.float.specs.Asin.{asinWord}
+use Rattle.float.specs.Acos.{acosWord}
+use Rattle.float.specs.Tan.{tanWord}
+use Rattle.float.specs.RemEuclid.{remEuclidWord}
+use Rattle.float.specs.DivEuclid.{divEuclidWord}
 use Rattle.float.proofs.Rows.{Row, _gives_, agree}
 
 abbrev pub rows : List Row
@@ -237,8 +242,75 @@ rows =
     ∷ hypotWord 0x0000_0000 0x0000_0000 gives 0x1fc0_0000
     ∷ hypotWord 0x7f80_0000 0xff80_0000 gives 0x5f80_0000
     ∷ hypotWord 0x7fc0_0000 0x3f80_0000 gives 0x7fc0_0000
+    -- asin: 0, both ends, just past them, and further off
+    ∷ asinWord 0x0000_0000 gives 0x0000_0000
+    ∷ asinWord 0x8000_0000 gives 0x8000_0000
+    ∷ asinWord 0x3f00_0000 gives 0x3f09_6859
+    ∷ asinWord 0xbf00_0000 gives 0xbf09_6859
+    ∷ asinWord 0x3f7f_ffff gives 0x3fc9_0565
+    ∷ asinWord 0x3f80_0000 gives 0x3fc9_0fdb
+    ∷ asinWord 0xbf80_0000 gives 0xbfc9_0fdb
+    ∷ asinWord 0x3f80_0001 gives 0x04e7_a8cb
+    ∷ asinWord 0x4000_0000 gives 0x7fc0_0000
+    ∷ asinWord 0x7f80_0000 gives 0x7fc0_0000
+    -- acos: what is above 0, a zero, and what is neither; both ends, and just past them
+    ∷ acosWord 0x0000_0000 gives 0x3fc9_0fdb
+    ∷ acosWord 0x8000_0000 gives 0x3fc9_0fdb
+    ∷ acosWord 0x0000_0001 gives 0x7fc0_0000
+    ∷ acosWord 0x8000_0001 gives 0x7fc0_0000
+    ∷ acosWord 0x217f_ffff gives 0x3fc9_0fdb
+    ∷ acosWord 0xa180_0000 gives 0x3fc9_0fdb
+    ∷ acosWord 0x3f00_0000 gives 0x3f86_3fdf
+    ∷ acosWord 0xbf00_0000 gives 0x4005_efec
+    ∷ acosWord 0x3f7f_ffff gives 0x39b3_d987
+    ∷ acosWord 0xbf7f_ffff gives 0x4049_0a3c
+    ∷ acosWord 0x3f80_0000 gives 0x1fb3_d15e
+    ∷ acosWord 0xbf80_0000 gives 0x4049_0fdb
+    ∷ acosWord 0x3f80_0001 gives 0x7fc0_0000
+    ∷ acosWord 0x7f80_0000 gives 0x7fc0_0000
+    -- tan: where the cosine is a zero, and beside it
+    ∷ tanWord 0x0000_0000 gives 0x0000_0000
+    ∷ tanWord 0x8000_0000 gives 0x0000_0000
+    ∷ tanWord 0x3f80_0000 gives 0x3fc7_723f
+    ∷ tanWord 0xbf80_0000 gives 0xbfc7_7241
+    ∷ cosWord ieee 0x3fc9_0fda gives 0x33c6_6667
+    ∷ tanWord 0x3fc9_0fda gives 0x4b25_294a
+    ∷ cosWord ieee 0xbfc9_0fda gives 0x0000_0000
+    ∷ tanWord 0xbfc9_0fda gives 0xff80_0000
+    ∷ tanWord 0x3fc9_0fdb gives 0x7f80_0000
+    ∷ tanWord 0x7f80_0000 gives 0x7fc0_0000
+    -- rem_euclid: the remainder above 0, either zero, and below 0, by a divisor of either sign
+    ∷ remEuclidWord 0x40e0_0000 0x4040_0000 gives 0x3f80_0000
+    ∷ remEuclidWord 0x40e0_0000 0xc040_0000 gives 0x3f80_0000
+    ∷ remEuclidWord 0xc0e0_0000 0x4040_0000 gives 0x4000_0000
+    ∷ remEuclidWord 0xc0e0_0000 0xc040_0000 gives 0x4000_0000
+    ∷ remEuclidWord 0x40c0_0000 0x4040_0000 gives 0x0000_0000
+    ∷ remEuclidWord 0xc0c0_0000 0x4040_0000 gives 0x8000_0000
+    ∷ remEuclidWord 0x8000_0000 0x3f80_0000 gives 0x8000_0000
+    ∷ remEuclidWord 0x8000_0001 0x3f80_0000 gives 0x3f80_0000
+    ∷ remEuclidWord 0x0000_0001 0x3f80_0000 gives 0x0000_0001
+    ∷ remEuclidWord 0x7f7f_ffff 0x40a0_0000 gives 0x0000_0000
+    ∷ remEuclidWord 0x3f80_0000 0x0000_0000 gives 0x7fc0_0000
+    ∷ remEuclidWord 0x3f80_0000 0x7f80_0000 gives 0x3f80_0000
+    ∷ remEuclidWord 0xbf80_0000 0x7f80_0000 gives 0x7f80_0000
+    ∷ remEuclidWord 0x7f80_0000 0x3f80_0000 gives 0x7fc0_0000
+    -- div_euclid: the same, a divisor that is a zero, and quotients past 2 ^ 32; two zeros make a NaN, and trunc's answer to it is an infinity
+    ∷ divEuclidWord 0x40e0_0000 0x4040_0000 gives 0x4000_0000
+    ∷ divEuclidWord 0x40e0_0000 0xc040_0000 gives 0xc000_0000
+    ∷ divEuclidWord 0xc0e0_0000 0x4040_0000 gives 0xc040_0000
+    ∷ divEuclidWord 0xc0e0_0000 0xc040_0000 gives 0x4040_0000
+    ∷ divEuclidWord 0xc0c0_0000 0x4040_0000 gives 0xc000_0000
+    ∷ divEuclidWord 0x8000_0001 0x3f80_0000 gives 0xbf80_0000
+    ∷ divEuclidWord 0x8000_0001 0xbf80_0000 gives 0x3f80_0000
+    ∷ divEuclidWord 0x3f80_0000 0x0000_0000 gives 0x7f80_0000
+    ∷ divEuclidWord 0xbf80_0000 0x0000_0000 gives 0xff80_0000
+    ∷ divEuclidWord 0xbf80_0000 0x8000_0000 gives 0x7f80_0000
+    ∷ divEuclidWord 0x0000_0000 0x0000_0000 gives 0x7f80_0000
+    ∷ divEuclidWord 0xbf80_0000 0x7f80_0000 gives 0xbf80_0000
+    ∷ divEuclidWord 0x3f80_0000 0x0000_0001 gives 0x7f80_0000
+    ∷ divEuclidWord 0x4f80_0001 0x3f80_0000 gives 0x4f80_0000
     ∷ []
 
 pub exact : agree rows ≡ true
-unfolding written correction recipWord series powerWord expWord polynomial logarithm lnWord works powiWord powfWord cosWord sinWord atanNormWord atanWord quarters atan2Word hypotWord add sub mul div lt le eq nanBits ofBits toBits ofInt toSigned
+unfolding written correction recipWord series powerWord expWord polynomial logarithm lnWord works powiWord powfWord cosWord sinWord atanNormWord atanWord quarters atan2Word hypotWord asinWord acosWord tanWord remEuclidWord divEuclidWord add sub mul div rem lt le eq nanBits ofBits toBits ofInt toSigned
 exact = refl

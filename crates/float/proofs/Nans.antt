@@ -1,15 +1,21 @@
--- What the kernels answer to a NaN, whatever its sign and its other bits: exp an infinity, the others the one NaN. Assumes nothing.
+-- What the kernels answer to a NaN, whatever its sign and its other bits: exp and div_euclid an infinity, the others the one NaN. Assumes nothing.
 use Prim.Native.Nat.{ℕ}
 use mathlib.Core.Path.{_≡_, refl, sym, ap, _∙_}
-use mathlib.Core.Bool.{Bool, true, false}
-use lib.Ieee.{Float, binary32, nan, inf, fin, add, sub, mul, div, lt, eq, nanBits, ofBits, toBits, ofInt, toSigned}
+use mathlib.Core.Bool.{Bool, true, false, cond}
+use lib.Ieee.{Float, binary32, nan, inf, fin, add, sub, mul, div, rem, lt, le, eq, nanBits, ofBits, toBits, ofInt, toSigned}
 use Rattle.format.specs.Fields.{negative}
-use Rattle.format.specs.Parts.{written}
+use Rattle.format.specs.Sign.{absWord}
+use Rattle.format.specs.Parts.{truncWord, written}
 use Rattle.format.proofs.Nan.{nan-read}
 use Rattle.float.specs.Engine.{ieee, absOf}
 use Rattle.float.specs.Cos.{cosWord, sinWord}
 use Rattle.float.specs.Atan.{signOr, quotient, firstQuadrant, atanNormWord, atanWord}
 use Rattle.float.specs.Atan2.{ratio, quarters, withinHalf, atan2Word}
+use Rattle.float.specs.Asin.{asinWord}
+use Rattle.float.specs.Acos.{acosWord}
+use Rattle.float.specs.Tan.{tanWord}
+use Rattle.float.specs.RemEuclid.{remainder, isNotBelow, remEuclidWord}
+use Rattle.float.specs.DivEuclid.{divEuclidWord}
 use Rattle.float.specs.Exp.{series, powerWord, expWord}
 use Rattle.float.proofs.Signs.{nan-answered}
 
@@ -37,6 +43,18 @@ atan-computed : toBits binary32 (mul binary32 (ofBits binary32 0x3fc9_0fdb) (ofB
 unfolding mul ofBits toBits
 atan-computed = refl
 
+asin-computed : asinWord 0x7fc0_0000 ≡ 0x7fc0_0000
+unfolding asinWord atanWord atanNormWord add sub mul div nanBits ofBits toBits
+asin-computed = refl
+
+acos-computed : acosWord 0x7fc0_0000 ≡ 0x7fc0_0000
+unfolding acosWord atanWord atanNormWord add sub mul div lt le eq nanBits ofBits toBits
+acos-computed = refl
+
+over-computed : toBits binary32 (div binary32 (ofBits binary32 0x7fc0_0000) (ofBits binary32 0x7fc0_0000)) ≡ 0x7fc0_0000
+unfolding div ofBits toBits
+over-computed = refl
+
 module _ (w : ℕ) (n : nanBits binary32 w ≡ true) where
   -- it is read as the one NaN
   read : ofBits binary32 w ≡ ofBits binary32 0x7fc0_0000
@@ -61,6 +79,18 @@ module _ (w : ℕ) (n : nanBits binary32 w ≡ true) where
   pub atan-of-nan : atanWord ieee w ≡ 0x7fc0_0000
   unfolding atanWord
   atan-of-nan = rw atan-norm-of-nan atan-computed
+
+  pub asin-of-nan : asinWord w ≡ 0x7fc0_0000
+  unfolding asinWord
+  asin-of-nan = rw read asin-computed
+
+  pub acos-of-nan : acosWord w ≡ 0x7fc0_0000
+  unfolding acosWord
+  acos-of-nan = rw read acos-computed
+
+  pub tan-of-nan : tanWord w ≡ 0x7fc0_0000
+  unfolding tanWord
+  tan-of-nan = rw (sin-of-nan, cos-of-nan) over-computed
 
 -- ---- atan2, of which one operand is a NaN
 
@@ -124,3 +154,52 @@ atan2-of-nan-y y x n = atan2-of y x (rw (nan-read binary32 y n) (ratio-of-y (ofB
 
 pub atan2-of-nan-x : (y x : ℕ) → nanBits binary32 x ≡ true → atan2Word y x ≡ 0x7fc0_0000
 atan2-of-nan-x y x n = atan2-of y x (rw (nan-read binary32 x n) (ratio-of-x (ofBits binary32 y)))
+
+-- ---- the two euclids, of which one operand is a NaN: trunc reads the quotient's bits, so div_euclid's answer is an infinity
+
+div-right : (x : Float) → div binary32 x nan ≡ nan
+unfolding div
+div-right nan = refl
+div-right (inf s) = refl
+div-right (fin s m e) = refl
+
+rem-left : (x : Float) → rem binary32 nan x ≡ nan
+unfolding rem
+rem-left x = refl
+
+rem-right : (x : Float) → rem binary32 x nan ≡ nan
+unfolding rem
+rem-right nan = refl
+rem-right (inf s) = refl
+rem-right (fin s m e) = refl
+
+more-than-nan : (x : Float) → toBits binary32 (cond (isNotBelow nan) nan (add binary32 nan x)) ≡ 0x7fc0_0000
+unfolding add le lt eq ofBits toBits
+more-than-nan x = refl
+
+rem-euclid-of : (w v : ℕ) → remainder w v ≡ nan → remEuclidWord w v ≡ 0x7fc0_0000
+unfolding remEuclidWord
+rem-euclid-of w v e = rw e (more-than-nan (ofBits binary32 (absWord binary32 v)))
+
+-- trunc's answer to the NaN is an infinity, and a step either way leaves it
+past-nan : (b : Bool) → let q = truncWord binary32 (toBits binary32 nan) in
+    cond (isNotBelow nan) q (toBits binary32 (cond b (sub binary32 (ofBits binary32 q) (ofBits binary32 0x3f80_0000)) (add binary32 (ofBits binary32 q) (ofBits binary32 0x3f80_0000)))) ≡ 0x7f80_0000
+unfolding add sub le lt eq ofBits toBits
+past-nan true = refl
+past-nan false = refl
+
+div-euclid-of : (w v : ℕ) → div binary32 (ofBits binary32 w) (ofBits binary32 v) ≡ nan → remainder w v ≡ nan → divEuclidWord w v ≡ 0x7f80_0000
+unfolding divEuclidWord
+div-euclid-of w v d e = rw (d, e) (past-nan (lt (ofBits binary32 0) (ofBits binary32 v)))
+
+pub rem-euclid-of-nan : (w v : ℕ) → nanBits binary32 w ≡ true → remEuclidWord w v ≡ 0x7fc0_0000
+rem-euclid-of-nan w v n = rem-euclid-of w v (rw (nan-read binary32 w n) (rem-left (ofBits binary32 v)))
+
+pub rem-euclid-by-nan : (w v : ℕ) → nanBits binary32 v ≡ true → remEuclidWord w v ≡ 0x7fc0_0000
+rem-euclid-by-nan w v n = rem-euclid-of w v (rw (nan-read binary32 v n) (rem-right (ofBits binary32 w)))
+
+pub div-euclid-of-nan : (w v : ℕ) → nanBits binary32 w ≡ true → divEuclidWord w v ≡ 0x7f80_0000
+div-euclid-of-nan w v n = let e = nan-read binary32 w n in div-euclid-of w v (rw e (div-left (ofBits binary32 v))) (rw e (rem-left (ofBits binary32 v)))
+
+pub div-euclid-by-nan : (w v : ℕ) → nanBits binary32 v ≡ true → divEuclidWord w v ≡ 0x7f80_0000
+div-euclid-by-nan w v n = let e = nan-read binary32 v n in div-euclid-of w v (rw e (div-right (ofBits binary32 w))) (rw e (rem-right (ofBits binary32 w)))

@@ -39,6 +39,11 @@ use Rattle.float.proofs.F32.atan_norm.Reads as atan-norm
 use Rattle.float.proofs.F32.atan.Reads as atan
 use Rattle.float.proofs.F32.atan2.Reads as atan2
 use Rattle.float.proofs.F32.exp.Reads as exp
+use Rattle.float.proofs.F32.asin.Reads as asin
+use Rattle.float.proofs.F32.acos.Reads as acos
+use Rattle.float.proofs.F32.tan.Reads as tan
+use Rattle.float.proofs.F32.rem_euclid.Reads as rem-euclid
+use Rattle.float.proofs.F32.div_euclid.Reads as div-euclid
 use Rattle.float.proofs.cast.from_i32.Reads as from-i32
 use Rattle.float.proofs.cast.from_u32.Reads as from-u32
 use Rattle.float.proofs.cast.bits_of_i32.Reads as bits-of-i32
@@ -204,3 +209,18 @@ module _ (κs : Lfts 0) where
 
   pub F32-exp : OneAnswer (exp.Post κs) (λ r x. r .0)
   F32-exp = pinned _ (λ a r x p. p)
+
+  pub F32-asin : OneAnswer (asin.Post κs) (λ r x. r .0)
+  F32-asin = pinned _ (λ a r x p. p)
+
+  pub F32-acos : OneAnswer (acos.Post κs) (λ r x. r .0)
+  F32-acos = pinned _ (λ a r x p. p)
+
+  pub F32-tan : OneAnswer (tan.Post κs) (λ r x. r .0)
+  F32-tan = pinned _ (λ a r x p. p)
+
+  pub F32-rem-euclid : OneAnswer (rem-euclid.Post κs) (λ r x. r .0)
+  F32-rem-euclid = pinned _ (λ a r x p. p)
+
+  pub F32-div-euclid : OneAnswer (div-euclid.Post κs) (λ r x. r .0)
+  F32-div-euclid = pinned _ (λ a r x p. p)

@@ -9,6 +9,8 @@ pub const EPSILON: f32 = 0.00000011920929;
 
 pub const LN_2: f32 = 0.6931472;
 
+pub const PI: f32 = 3.1415927;
+
 pub const FRAC_PI_2: f32 = 1.5707964;
 
 pub fn abs_of(x: f32) -> f32

@@ -1,19 +1,21 @@
 -- The refusals in one table of the definitions: both sides of every end of a gate, and the operations that a refusal is about
--- beside those that it is not. And the ends of the gates as the numbers that are meant, and where an answer is not the raw word.
--- Assumes nothing.
+-- beside those that it is not. And the ends of the gates as the numbers that are meant, the word that is judged, and where an answer is
+-- not the raw word. Assumes nothing.
 use Prim.Native.Nat.{ℕ, _+_}
 use mathlib.Core.Path.{_≡_, refl}
 use mathlib.Core.Bool.{Bool, true, false, cond}
 use mathlib.Core.List.{List, [], _∷_, _++_, map}
 use lib.IntN.{pos, negsuc}
-use lib.Ieee.{fin, binary32, add, sub, mul, div, lt, le, eq, nanBits, ofBits, toBits, ofInt}
+use lib.Ieee.{fin, binary32, add, sub, mul, div, lt, le, eq, nanBits, ofBits, toBits, ofInt, toSigned}
+use Rattle.float.specs.Engine.{ieee}
+use Rattle.float.specs.Cos.{cosWord}
 use Rattle.float.specs.Ln.{polynomial, logarithm, lnWord}
-use Rattle.guard.specs.Operations.{opTrunc, opFract, opFloor, opCeil, opRound, opAbs, opCopysign, opSignum, opSqrt, opInvsqrt, opInv, opRecip, opExp, opLn, opPowi, opPowf, opAtan, opAtan2, opCos, opSin, opHypot}
+use Rattle.guard.specs.Operations.{opTrunc, opFract, opFloor, opCeil, opRound, opAbs, opCopysign, opSignum, opSqrt, opInvsqrt, opInv, opRecip, opExp, opLn, opPowi, opPowf, opAtan, opAtan2, opCos, opSin, opHypot, opAsin, opAcos, opTan, opRemEuclid, opDivEuclid}
 use Rattle.guard.specs.Gates.{low, high, gateOf, judged}
 use Rattle.guard.specs.Refusals.{twoFloats, refusesZero, refusesSmall, refusesSign, refusalBehind, refusalOf}
 use Rattle.guard.specs.Guarded.{valueOf}
 
--- ---- the ends as numbers: 2 ^ 32, 2 ^ 31, 2 ^ 23, 2 ^ 126, 2 ^ 125, -87, 88, 2 ^ 64, 2 ^ -60, 2 ^ 60 and 1024
+-- ---- the ends as numbers: 2 ^ 32, 2 ^ 31, 2 ^ 23, 2 ^ 126, 2 ^ 125, -87, 88, 2 ^ 64, 2 ^ -60, 2 ^ 60, 1024 and 1
 
 -- the word above an end that is under a bound
 abbrev under : ℕ → ℕ
@@ -27,20 +29,22 @@ from op = low (gateOf op)
 
 pub ends-are-numbers : map (ofBits binary32)
     (under opTrunc ∷ under opFract ∷ to opFloor ∷ to opCeil ∷ under opRound ∷ to opInv ∷ to opRecip ∷ from opExp ∷ to opExp ∷ from opPowf ∷ to opPowf
-    ∷ under opAtan ∷ from opAtan2 ∷ to opAtan2 ∷ from opHypot ∷ to opHypot ∷ to opCos ∷ to opSin ∷ [])
+    ∷ under opAtan ∷ from opAtan2 ∷ to opAtan2 ∷ from opHypot ∷ to opHypot ∷ to opCos ∷ to opSin
+    ∷ under opAsin ∷ from opAcos ∷ under opAcos ∷ to opTan ∷ under opRemEuclid ∷ under opDivEuclid ∷ [])
     ≡ fin false 1 (pos 32) ∷ fin false 1 (pos 32) ∷ fin false 1 (pos 31) ∷ fin false 1 (pos 31) ∷ fin false 1 (pos 23) ∷ fin false 1 (pos 126) ∷ fin false 1 (pos 125)
     ∷ fin true 87 (pos 0) ∷ fin false 11 (pos 3) ∷ fin true 87 (pos 0) ∷ fin false 11 (pos 3)
-    ∷ fin false 1 (pos 64) ∷ fin false 1 (negsuc 59) ∷ fin false 1 (pos 60) ∷ fin false 1 (negsuc 59) ∷ fin false 1 (pos 60) ∷ fin false 1 (pos 10) ∷ fin false 1 (pos 10) ∷ []
+    ∷ fin false 1 (pos 64) ∷ fin false 1 (negsuc 59) ∷ fin false 1 (pos 60) ∷ fin false 1 (negsuc 59) ∷ fin false 1 (pos 60) ∷ fin false 1 (pos 10) ∷ fin false 1 (pos 10)
+    ∷ fin false 1 (pos 0) ∷ fin false 1 (negsuc 59) ∷ fin false 1 (pos 0) ∷ fin false 1 (pos 10) ∷ fin false 1 (pos 23) ∷ fin false 1 (pos 23) ∷ []
 unfolding ofBits
 ends-are-numbers = refl
 
 -- ---- the operations that a refusal is about, of all
 
 abbrev all : List ℕ
-all = opTrunc ∷ opFract ∷ opFloor ∷ opCeil ∷ opRound ∷ opAbs ∷ opCopysign ∷ opSignum ∷ opSqrt ∷ opInvsqrt ∷ opInv ∷ opRecip ∷ opExp ∷ opLn ∷ opPowi ∷ opPowf ∷ opAtan ∷ opAtan2 ∷ opCos ∷ opSin ∷ opHypot ∷ []
+all = opTrunc ∷ opFract ∷ opFloor ∷ opCeil ∷ opRound ∷ opAbs ∷ opCopysign ∷ opSignum ∷ opSqrt ∷ opInvsqrt ∷ opInv ∷ opRecip ∷ opExp ∷ opLn ∷ opPowi ∷ opPowf ∷ opAtan ∷ opAtan2 ∷ opCos ∷ opSin ∷ opHypot ∷ opAsin ∷ opAcos ∷ opTan ∷ opRemEuclid ∷ opDivEuclid ∷ []
 
 abbrev ofTwoFloats : List ℕ
-ofTwoFloats = opCopysign ∷ opPowf ∷ opAtan2 ∷ opHypot ∷ []
+ofTwoFloats = opCopysign ∷ opPowf ∷ opAtan2 ∷ opHypot ∷ opRemEuclid ∷ opDivEuclid ∷ []
 
 abbrev ofZeros : List ℕ
 ofZeros = opInvsqrt ∷ opInv ∷ opRecip ∷ opLn ∷ opPowi ∷ opPowf ∷ []
@@ -48,9 +52,9 @@ ofZeros = opInvsqrt ∷ opInv ∷ opRecip ∷ opLn ∷ opPowi ∷ opPowf ∷ []
 abbrev ofSmall : List ℕ
 ofSmall = opSqrt ∷ ofZeros
 
--- that take both zeros and small numbers
+-- that take both zeros and small numbers; acos takes zeros alone
 abbrev ofNeither : List ℕ
-ofNeither = opTrunc ∷ opFract ∷ opFloor ∷ opCeil ∷ opRound ∷ opAbs ∷ opCopysign ∷ opSignum ∷ opExp ∷ opAtan ∷ opAtan2 ∷ opCos ∷ opSin ∷ opHypot ∷ []
+ofNeither = opTrunc ∷ opFract ∷ opFloor ∷ opCeil ∷ opRound ∷ opAbs ∷ opCopysign ∷ opSignum ∷ opExp ∷ opAtan ∷ opAtan2 ∷ opCos ∷ opSin ∷ opHypot ∷ opAsin ∷ opTan ∷ opRemEuclid ∷ opDivEuclid ∷ []
 
 abbrev ofSigns : List ℕ
 ofSigns = opSqrt ∷ opInvsqrt ∷ opInv ∷ opLn ∷ opPowf ∷ []
@@ -167,6 +171,45 @@ ends =
     ∷ at opCos 0x4480_0001 0x0000_0000 4
     ∷ at opSin 0x4480_0000 0x0000_0000 0
     ∷ at opSin 0x4480_0001 0x0000_0000 4
+    ∷ at opAsin 0x3f7f_ffff 0x0000_0000 0
+    ∷ at opAsin 0xbf7f_ffff 0x0000_0000 0
+    ∷ at opAsin 0x3f80_0000 0x0000_0000 4
+    ∷ at opAsin 0xbf80_0000 0x0000_0000 4
+    ∷ at opAcos 0x0000_0000 0x0000_0000 0
+    ∷ at opAcos 0x8000_0000 0x0000_0000 0
+    ∷ at opAcos 0x0000_0001 0x0000_0000 4
+    ∷ at opAcos 0x8000_0001 0x0000_0000 4
+    ∷ at opAcos 0x217f_ffff 0x0000_0000 4
+    ∷ at opAcos 0xa17f_ffff 0x0000_0000 4
+    ∷ at opAcos 0x2180_0000 0x0000_0000 0
+    ∷ at opAcos 0xa180_0000 0x0000_0000 0
+    ∷ at opAcos 0x3f7f_ffff 0x0000_0000 0
+    ∷ at opAcos 0xbf7f_ffff 0x0000_0000 0
+    ∷ at opAcos 0x3f80_0000 0x0000_0000 4
+    ∷ at opAcos 0xbf80_0000 0x0000_0000 4
+    ∷ at opTan 0x4480_0000 0x0000_0000 0
+    ∷ at opTan 0xc480_0000 0x0000_0000 0
+    ∷ at opTan 0x4480_0001 0x0000_0000 4
+    ∷ at opTan 0xc480_0001 0x0000_0000 4
+    ∷ at opTan 0x3fc9_0fda 0x0000_0000 0
+    ∷ at opTan 0xbfc9_0fda 0x0000_0000 4
+    ∷ at opTan 0x3fc9_0fdb 0x0000_0000 4
+    ∷ at opTan 0xbfc9_0fdb 0x0000_0000 4
+    ∷ at opRemEuclid 0x4aff_ffff 0x3f80_0000 0
+    ∷ at opRemEuclid 0xcaff_ffff 0x3f80_0000 0
+    ∷ at opRemEuclid 0x4b00_0000 0x3f80_0000 4
+    ∷ at opRemEuclid 0x4b00_0000 0xbf80_0000 4
+    ∷ at opRemEuclid 0x7f7f_ffff 0x7f7f_ffff 0
+    ∷ at opRemEuclid 0x3f80_0000 0x0000_0000 4
+    ∷ at opRemEuclid 0x0000_0000 0x8000_0000 4
+    ∷ at opRemEuclid 0x3f80_0000 0x0000_0001 4
+    ∷ at opRemEuclid 0x0000_0001 0x0000_0001 0
+    ∷ at opDivEuclid 0x4aff_ffff 0xbf80_0000 0
+    ∷ at opDivEuclid 0x4b00_0000 0x3f80_0000 4
+    ∷ at opDivEuclid 0xcb00_0000 0x3f80_0000 4
+    ∷ at opDivEuclid 0x7f7f_ffff 0x7f7f_ffff 0
+    ∷ at opDivEuclid 0x3f80_0000 0x8000_0000 4
+    ∷ at opDivEuclid 0x0000_0000 0x0000_0000 4
     ∷ []
 
 -- the same of several operations
@@ -176,19 +219,20 @@ each ops a b n = map (λ op. at op a b n) ops
 -- each list of operations that a refusal is about, and beside it the others, which answer such words or refuse them otherwise
 abbrev pub lists : List Case
 lists =
-    -- 1: the first operand of each, before anything else, and the second of four
+    -- 1: the first operand of each, before anything else, and the second of six
     each all 0xff80_0000 0x0000_0000 1
     ++ each ofTwoFloats 0x3f80_0000 0x7f80_0000 1
     ++ each ofTwoFloats 0x0000_0000 0x7f80_0000 1
     ++ each (opPowi ∷ []) 0x7f80_0000 0x0010_0001 1
     ++ each (opPowf ∷ []) 0x8000_0001 0x7f80_0000 1
     ++ each (opPowf ∷ []) 0xc000_0000 0xff80_0000 1
-    ++ each (opTrunc ∷ opFract ∷ opFloor ∷ opCeil ∷ opRound ∷ opAbs ∷ opSignum ∷ opSqrt ∷ opInvsqrt ∷ opInv ∷ opRecip ∷ opExp ∷ opLn ∷ opAtan ∷ opCos ∷ opSin ∷ []) 0x4000_0000 0xff80_0000 0
+    ++ each (opTrunc ∷ opFract ∷ opFloor ∷ opCeil ∷ opRound ∷ opAbs ∷ opSignum ∷ opSqrt ∷ opInvsqrt ∷ opInv ∷ opRecip ∷ opExp ∷ opLn ∷ opAtan ∷ opCos ∷ opSin ∷ opTan ∷ []) 0x4000_0000 0xff80_0000 0
+    ++ each (opAsin ∷ opAcos ∷ []) 0x3f00_0000 0xff80_0000 0
     -- 2: a zero, before the gate and the power; sqrt answers it, with either sign
     ++ each ofZeros 0x0000_0000 0x0000_0000 2
     ++ each ofZeros 0x8000_0000 0x7f7f_ffff 2
-    ++ each (opSqrt ∷ ofNeither) 0x0000_0000 0x3f80_0000 0
-    ++ each (opSqrt ∷ ofNeither) 0x8000_0000 0x3f80_0000 0
+    ++ each (opSqrt ∷ opAcos ∷ ofNeither) 0x0000_0000 0x3f80_0000 0
+    ++ each (opSqrt ∷ opAcos ∷ ofNeither) 0x8000_0000 0x3f80_0000 0
     -- 9: a small first operand, from the words beside the zeros to those beside the normal numbers, before the sign, the gate and the power
     ++ each ofSmall 0x0000_0001 0x0000_0000 9
     ++ each ofSmall 0x007f_ffff 0x0010_0001 9
@@ -199,7 +243,8 @@ lists =
     ++ each ofNeither 0x807f_ffff 0x3f80_0000 0
     -- 3: a first operand below 0
     ++ each ofSigns 0x8080_0000 0x0000_0000 3
-    ++ each (opTrunc ∷ opFract ∷ opFloor ∷ opCeil ∷ opRound ∷ opAbs ∷ opCopysign ∷ opSignum ∷ opRecip ∷ opExp ∷ opPowi ∷ opAtan ∷ opAtan2 ∷ opCos ∷ opSin ∷ opHypot ∷ []) 0xbf80_0000 0x0000_0001 0
+    ++ each (opTrunc ∷ opFract ∷ opFloor ∷ opCeil ∷ opRound ∷ opAbs ∷ opCopysign ∷ opSignum ∷ opRecip ∷ opExp ∷ opPowi ∷ opAtan ∷ opAtan2 ∷ opCos ∷ opSin ∷ opHypot ∷ opTan ∷ []) 0xbf80_0000 0x0000_0001 0
+    ++ each (opAsin ∷ opAcos ∷ opRemEuclid ∷ opDivEuclid ∷ []) 0xbf00_0000 0xbf80_0000 0
     -- 4: no gate
     ++ each (opAbs ∷ opCopysign ∷ opSignum ∷ opSqrt ∷ opInvsqrt ∷ opLn ∷ opPowi ∷ []) 0x7f7f_ffff 0x0000_0001 0
     -- 5: the power is powi's, and no float's place
@@ -211,8 +256,22 @@ abbrev pub cases : List Case
 cases = ends ++ lists
 
 pub edges : map (λ c. refusalOf (c .op) (c .first) (c .second)) cases ≡ map (λ c. c .refusal) cases
-unfolding refusalBehind judged polynomial logarithm lnWord add sub mul div lt nanBits ofBits toBits ofInt
+unfolding refusalBehind judged polynomial logarithm lnWord cosWord add sub mul div lt nanBits ofBits toBits ofInt toSigned
 edges = refl
+
+-- ---- the word that is judged: exp's with its sign, powf's product, the larger of two, an infinity for tan beside a zero cosine, a
+-- quotient, and else a magnitude
+
+pub judged-words : (judged opExp 0xc000_0000 0 ∷ judged opPowf 0x3f80_0000 0xc000_0000 ∷ judged opAtan2 0xbf80_0000 0xc000_0000 ∷ judged opHypot 0xc000_0000 0x3f80_0000
+    ∷ judged opTan 0xbfc9_0fda 0 ∷ judged opTan 0x3fc9_0fda 0 ∷ judged opTan 0xbfc9_0fdb 0
+    ∷ judged opRemEuclid 0xc120_0000 0x4000_0000 ∷ judged opDivEuclid 0x4120_0000 0xc000_0000 ∷ judged opDivEuclid 0x0000_0000 0x0000_0000
+    ∷ judged opAcos 0x8000_0000 0 ∷ judged opCos 0xbfc9_0fdb 0 ∷ [])
+    ≡ 0xc000_0000 ∷ 0x8000_0000 ∷ 0x4000_0000 ∷ 0x4000_0000
+    ∷ 0x7f80_0000 ∷ 0x3fc9_0fda ∷ 0x7f80_0000
+    ∷ 0x40a0_0000 ∷ 0x40a0_0000 ∷ 0x7fc0_0000
+    ∷ 0x0000_0000 ∷ 0x3fc9_0fdb ∷ []
+unfolding judged polynomial logarithm lnWord cosWord add sub mul div lt nanBits ofBits toBits ofInt toSigned
+judged-words = refl
 
 -- ---- the value of an answered call: sqrt's of a zero is that zero, sqrt's of any other word and another operation's of a zero are raw
 

@@ -1,27 +1,32 @@
 -- What holds of every guarded call. `Gives n w r` is what each promises of its answer r: `Guards op a b r` for an operation by name,
 -- `GuardsByNumber op a b r` by number, and the same with atan_norm's word. Assumes nothing.
 use Prim.Native.Nat.{ℕ, zero, suc, _^_, _<_}
+use native.Mathlib.Nat.{lt-of-lt-of-le}
 use native.Mathlib.Omega.{arith}
 use mathlib.Core.Path.{_≡_, refl, sym, ap, _∙_}
 use mathlib.Core.Bool.{Bool, true, false, cond, _&&_}
 use mathlib.Core.List.{List, _∷_, _++_}
 use borrow.Author.Tests.{ne-eqb, eqb-true}
-use lib.Dec.{eqb}
+use lib.Dec.{eqb, lit<}
 use lib.Ieee.{Float, binary32, isNan, nanBits, ofBits}
 use lib.Ieee.Bits.{nanBits-is}
 use Rattle.format.specs.Fields.{magnitude}
-use Rattle.format.specs.Classes.{isZero}
+use Rattle.format.specs.Classes.{isEndless, isZero}
 use Rattle.format.proofs.Classes.{zero-not-endless, zero-not-small, zero-not-below}
+use Rattle.format.proofs.Fields.{magnitude-lt}
+use Rattle.float.specs.DivEuclid.{quotientWord}
+use Rattle.sizes.proofs.Euclid.{zero-divisor-is-outside}
 use Rattle.raw.specs.Raw.{Kernel, none, one, two, kernels, kernelOf, operandsOf, rawOf}
 use Rattle.guard.specs.declared.Guarded.the-variants.{Number}
 use Rattle.guard.specs.declared.Answer.{Answer}
-use Rattle.guard.specs.Operations.{opSqrt}
-use Rattle.guard.specs.Gates.{gateOf, judged}
+use Rattle.guard.specs.Operations.{opSqrt, opRemEuclid, opDivEuclid}
+use Rattle.guard.specs.Gates.{gateOf, passes, judged}
 use Rattle.guard.specs.Refusals.{Refusal, refusals, holds, refusalBehind, refusalOf}
 use Rattle.guard.specs.Guarded.{given, refusalGiven, wordOf, secondOf, Answered, Gives, valueOf, Guards, refusalByNumber, GuardsByNumber}
 use Rattle.guard.proofs.Each.{Each, done, _⨟_, of-each}
 use Rattle.guard.proofs.First.{NoneHolds, first-given, none-given, none-holds}
 use Rattle.guard.proofs.Gives.{answered-none, none-answered, answered-word}
+use Rattle.guard.proofs.Open.{outside}
 use Rattle.guard.proofs.NoNan.{no-nan}
 
 -- ---- any call
@@ -134,6 +139,11 @@ ignored =
     ⨟ (λ e a b. refl)
     ⨟ (λ e a b. refl)
     ⨟ (λ e a b. not-one 0 e)
+    ⨟ (λ e a b. refl)
+    ⨟ (λ e a b. refl)
+    ⨟ (λ e a b. refl)
+    ⨟ (λ e a b. not-one 0 e)
+    ⨟ (λ e a b. not-one 0 e)
     ⨟ done
 
 pub one-word : (k : Kernel) (a b : ℕ) → operandsOf k ≡ 1 → rawOf k a b ≡ rawOf k a 0
@@ -143,3 +153,14 @@ one-word (two f) a b e = not-one 0 e
 
 pub second-word-is-ignored : (op a b : ℕ) → operandsOf (kernelOf op) ≡ 1 → (refusalOf op a b ≡ refusalOf op a 0) × (valueOf op a b ≡ valueOf op a 0)
 second-word-is-ignored op a b e = (of-each Ignores nothing ignored op e a b, ap (cond (eqb op opSqrt && isZero binary32 a) a) (one-word (kernelOf op) a b e))
+
+-- ---- a divisor that is a zero is outside the gate of both euclids
+
+quotient-outside : (a b : ℕ) → isZero binary32 b ≡ true → passes (gateOf opDivEuclid) (magnitude binary32 (quotientWord a b)) ≡ false
+quotient-outside a b z =
+    outside (gateOf opDivEuclid) (magnitude binary32 (quotientWord a b)) refl (magnitude-lt binary32 (quotientWord a b))
+    (lt-of-lt-of-le {n = 0x4aff_ffff} {m = 0x7f80_0000} (lit< tt) (zero-divisor-is-outside a b (eqb-true _ 0 z)))
+
+pub zero-divisor-is-refused : (a b : ℕ) → isEndless binary32 a ≡ false → isZero binary32 b ≡ true → (refusalOf opRemEuclid a b ≡ 4) × (refusalOf opDivEuclid a b ≡ 4)
+unfolding refusalBehind judged
+zero-divisor-is-refused a b h z = let n = zero-not-endless binary32 b z in (rw (h, n, quotient-outside a b z), rw (h, n, quotient-outside a b z))

@@ -1,10 +1,10 @@
--- A number that is a key of a `match`, or none of the keys before its last arm, is or is not in the list of them. Assumes nothing.
+-- A number that is none of the keys of a `match` before its last arm is not in the list of them. Assumes nothing.
 use Prim.Native.Nat.{ℕ}
-use mathlib.Core.Path.{_≡_, refl, ap, _∙_}
+use mathlib.Core.Path.{_≡_, refl}
 use mathlib.Core.Logic.{inl, inr}
-use mathlib.Core.Bool.{Bool, true, false, _||_}
+use mathlib.Core.Bool.{false, _||_}
 use mathlib.Core.List.{List, [], _∷_}
-use borrow.Author.Tests.{eq-eqb, ne-eqb}
+use borrow.Author.Tests.{ne-eqb}
 use lib.Dec.{eqb}
 use types.Run.{OneOf}
 use Rattle.guard.specs.Operations.{among}
@@ -24,16 +24,6 @@ missing N (k ∷ ks) x r = rw (ne-eqb x k (kept (N × (x ≡ k → ⊥)) ks x r 
 
 pub unlisted : (ks : List ℕ) (x : ℕ) → NoneOf (Unit {0}) ks x → among ks x ≡ false
 unlisted = missing (Unit {0})
-
-or-true : (b : Bool) → (b || true) ≡ true
-or-true true = refl
-or-true false = refl
-
-pub listed : (ks : List ℕ) (x : ℕ) → OneOf ks x → among ks x ≡ true
-listed [] x h = absurd h
-listed (k ∷ []) x h = rw (eq-eqb x k h)
-listed (k ∷ l ∷ ks) x (inl h) = rw (eq-eqb x k h)
-listed (k ∷ l ∷ ks) x (inr h) = ap (λ (t : Bool). eqb x k || t) (listed (l ∷ ks) x h) ∙ or-true (eqb x k)
 
 -- the same of one arm with all the keys
 any-key : (k : ℕ) (ks : List ℕ) (x : ℕ) → (OneOf (k ∷ ks) x → ⊥) → among (k ∷ ks) x ≡ false

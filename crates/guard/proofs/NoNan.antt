@@ -1,13 +1,13 @@
 -- No answered value is a NaN, over all operations: what an operation that is not refused knows of its operands is what its kernel's law
 -- asks for. Assumes nothing.
 use Prim.Native.Nat.{ℕ, _^_, _≤_, _<_}
-use native.Mathlib.Nat.{le-refl, le-of-lt}
+use native.Mathlib.Nat.{le-refl, le-of-lt, pos-of-ne-zero}
 use native.Mathlib.Omega.{arith}
 use mathlib.Core.Path.{_≡_, refl, sym, ap, subst, _∙_}
 use mathlib.Core.Logic.{_⊎_, inl, inr}
 use mathlib.Core.Bool.{Bool, true, false, cond, _&&_, true≢false, false≢true}
-use borrow.Author.Tests.{leb-true, leb-false, eqb-true}
-use lib.Dec.{T, leb, eqb}
+use borrow.Author.Tests.{leb-true, leb-false, eqb-true, eqb-false}
+use lib.Dec.{T, leb, eqb, lit<}
 use mir.Syntax.{w32}
 use mir.Val.{ofZ, toZ}
 use mir.Facts.{ofZ-toZ}
@@ -15,7 +15,7 @@ use lib.Ieee.{Float, nan, binary32, top, fits, nanBits, ofBits, toBits}
 use lib.Ieee.Bits.{ofBits-toBits}
 use lib.Ieee.Fits.{mul-fits}
 use Rattle.format.specs.Classes.{isEndless, isZero}
-use Rattle.format.specs.Fields.{magnitude}
+use Rattle.format.specs.Fields.{magnitude, infWord}
 use Rattle.format.specs.Meaning.{Under32, To31, Under23}
 use Rattle.format.specs.Estimates.{Invertible}
 use Rattle.format.proofs.Classes.{finite-of, above-small, positive, no-sign, normal-of}
@@ -23,7 +23,9 @@ use Rattle.format.proofs.Fields.{magnitude-lt}
 use Rattle.format.proofs.Nan.{nan-read, nan-written}
 use Rattle.float.specs.Engine.{ieee}
 use Rattle.float.specs.Atan.{atanNormWord}
+use Rattle.float.specs.Cos.{cosWord}
 use Rattle.float.specs.Powf.{productWord}
+use Rattle.float.specs.DivEuclid.{quotientWord}
 use Rattle.raw.specs.Raw.{Kernel, none, kernels}
 use Rattle.sizes.proofs.Bitwise.{finite-number, trunc-number, fract-number, floor-number, ceil-number, round-number, abs-number, copysign-number, signum-number, sqrt-number, invsqrt-number, inv-number}
 use Rattle.sizes.proofs.Recip.{recip-number}
@@ -35,13 +37,17 @@ use Rattle.sizes.proofs.Atan2.{atan2-number}
 use Rattle.sizes.proofs.Cos.{cos-number, sin-number}
 use Rattle.sizes.proofs.Hypot.{hypot-number}
 use Rattle.sizes.proofs.Powi.{powi-number}
+use Rattle.sizes.proofs.Asin.{asin-number}
+use Rattle.sizes.proofs.Acos.{acos-number}
+use Rattle.sizes.proofs.Tan.{tan-number}
+use Rattle.sizes.proofs.Euclid.{rem-euclid-number, div-euclid-number}
 use Rattle.guard.specs.declared.gate.Gate.{Gate}
-use Rattle.guard.specs.Operations.{opTrunc, opFloor, opRound, opSqrt, opInv, opRecip, opExp, opAtan, opAtan2, opCos}
-use Rattle.guard.specs.Gates.{gateOf, judged, place, within, passes, larger}
+use Rattle.guard.specs.Operations.{opTrunc, opFloor, opRound, opSqrt, opInv, opRecip, opExp, opAtan, opAtan2, opCos, opAsin, opAcos, opTan, opDivEuclid}
+use Rattle.guard.specs.Gates.{gateOf, judged, place, within, passes, larger, unlessZero}
 use Rattle.guard.specs.Refusals.{isPastPower, refusalOf}
 use Rattle.guard.specs.Guarded.{valueAt, valueOf}
 use Rattle.guard.proofs.Each.{Each, done, _⨟_, of-each}
-use Rattle.guard.proofs.Open.{Open, opened, Between, both, parted, plain, between}
+use Rattle.guard.proofs.Open.{Open, opened, Between, both, parted, plain, between-or, between}
 
 -- ---- the magnitude that an open gate has let pass
 
@@ -76,6 +82,27 @@ module _ (a : ℕ) where
 
   to1024 : passes (gateOf opCos) (magnitude binary32 a) ≡ true → magnitude binary32 a ≤ 0x4480_0000
   to1024 e = let r = by-magnitude (gateOf opCos) a refl e in omega arith
+
+  under1 : passes (gateOf opAsin) (magnitude binary32 a) ≡ true → magnitude binary32 a < 0x3f80_0000
+  under1 e = let r = by-magnitude (gateOf opAsin) a refl e in omega arith
+
+  -- acos's row has a 0 outside its ends
+  zero-or-under1 : passes (gateOf opAcos) (magnitude binary32 a) ≡ true → (magnitude binary32 a ≡ 0) ⊎ ((0x2180_0000 ≤ magnitude binary32 a) × (magnitude binary32 a < 0x3f80_0000))
+  zero-or-under1 e = elim (between-or (gateOf opAcos) (magnitude binary32 a) (lit< tt) (lit< tt) (magnitude-lt binary32 a) e) [
+    | inl r ↦ inr (r .low, let l = r .high in omega arith)
+    | inr z ↦ inl (z .1)
+  ]
+
+  -- beside a zero cosine an infinity is judged, which tan's row does not take
+  cosine-not-zero : (c : ℕ) → passes (gateOf opTan) (unlessZero c a) ≡ true → (magnitude binary32 a ≤ 0x4480_0000) × (0 < magnitude binary32 c)
+  cosine-not-zero c e = go (isZero binary32 c) refl e
+    where
+      go : (t : Bool) → isZero binary32 c ≡ t → passes (gateOf opTan) (cond t (infWord binary32) (magnitude binary32 a)) ≡ true → (magnitude binary32 a ≤ 0x4480_0000) × (0 < magnitude binary32 c)
+      go true d e = absurd (false≢true e)
+      go false d e = (by-magnitude (gateOf opTan) a refl e .high, pos-of-ne-zero (eqb-false _ _ d))
+
+quotient-under : (a b : ℕ) → passes (gateOf opDivEuclid) (magnitude binary32 (quotientWord a b)) ≡ true → magnitude binary32 (quotientWord a b) < 0x4b00_0000
+quotient-under a b e = let r = by-magnitude (gateOf opDivEuclid) (quotientWord a b) refl e in omega arith
 
 -- exp's gate has a sign at its low end
 within-exp : (w : ℕ) → (w ≡ 0xffff_ffff → ⊥) → passes (gateOf opExp) w ≡ true → (w ≤ 0x42b0_0000) ⊎ ((0x8000_0000 ≤ w) × (w ≤ 0xc2ae_0000))
@@ -192,6 +219,11 @@ each =
     ⨟ (λ a b h k o. cos-number a (to1024 a (o .gate)))
     ⨟ (λ a b h k o. sin-number a (to1024 a (o .gate)))
     ⨟ (λ a b h k o. let p = pair a b (o .gate) in hypot-number a b (p .first) (p .second))
+    ⨟ (λ a b h k o. asin-number a (under1 a (o .gate)))
+    ⨟ (λ a b h k o. acos-number a h (zero-or-under1 a (o .gate)))
+    ⨟ (λ a b h k o. let p = cosine-not-zero a (cosWord ieee a) (o .gate) in tan-number a (p .0) (p .1))
+    ⨟ (λ a b h k o. rem-euclid-number a b (finite-of binary32 a (o .first)) (finite-of binary32 b (o .second)) (quotient-under a b (o .gate)))
+    ⨟ (λ a b h k o. div-euclid-number a b (finite-of binary32 a (o .first)) (finite-of binary32 b (o .second)) (quotient-under a b (o .gate)))
     ⨟ done
 
 pub no-nan : (op a b : ℕ) → a < 2 ^ 32 → b < 2 ^ 32 → refusalOf op a b ≡ 0 → nanBits binary32 (valueOf op a b) ≡ false

@@ -30,6 +30,11 @@ use Rattle.guard.proofs.atan2.Reads as atan2-reads
 use Rattle.guard.proofs.cos.Reads as cos-reads
 use Rattle.guard.proofs.sin.Reads as sin-reads
 use Rattle.guard.proofs.hypot.Reads as hypot-reads
+use Rattle.guard.proofs.asin.Reads as asin-reads
+use Rattle.guard.proofs.acos.Reads as acos-reads
+use Rattle.guard.proofs.tan.Reads as tan-reads
+use Rattle.guard.proofs.rem_euclid.Reads as rem-euclid-reads
+use Rattle.guard.proofs.div_euclid.Reads as div-euclid-reads
 use Rattle.guard.proofs.atan_norm.Reads as atan-norm-reads
 use Rattle.guard.proofs.parts.Reads as parts-reads
 use Rattle.guard.proofs.call.Reads as call-reads
@@ -120,6 +125,21 @@ sin κs = pinned _ (λ a r x p. p .answer)
 
 pub hypot : (κs : Lfts 0) → OneAnswer (hypot-reads.Post κs) (λ r x. r)
 hypot κs = pinned _ (λ a r x p. p .answer)
+
+pub asin : (κs : Lfts 0) → OneAnswer (asin-reads.Post κs) (λ r x. r)
+asin κs = pinned _ (λ a r x p. p .answer)
+
+pub acos : (κs : Lfts 0) → OneAnswer (acos-reads.Post κs) (λ r x. r)
+acos κs = pinned _ (λ a r x p. p .answer)
+
+pub tan : (κs : Lfts 0) → OneAnswer (tan-reads.Post κs) (λ r x. r)
+tan κs = pinned _ (λ a r x p. p .answer)
+
+pub rem-euclid : (κs : Lfts 0) → OneAnswer (rem-euclid-reads.Post κs) (λ r x. r)
+rem-euclid κs = pinned _ (λ a r x p. p .answer)
+
+pub div-euclid : (κs : Lfts 0) → OneAnswer (div-euclid-reads.Post κs) (λ r x. r)
+div-euclid κs = pinned _ (λ a r x p. p .answer)
 
 pub atan-norm : (κs : Lfts 0) → OneAnswer (atan-norm-reads.Post κs) (λ r x. r)
 atan-norm κs = pinned _ (λ a r x p. p .answer)

@@ -1,6 +1,7 @@
 -- What is known of the operands of an operation that is not refused: none of the refusals holds, and what that says of the gate. Assumes
 -- nothing.
 use Prim.Native.Nat.{ℕ, _≤_, _<_}
+use native.Mathlib.Nat.{lt-irrefl, lt-of-le-of-lt}
 use native.Mathlib.Omega.{arith}
 use mathlib.Core.Path.{_≡_, refl, sym, ap, _∙_}
 use mathlib.Core.Logic.{_⊎_, inl, inr}
@@ -97,3 +98,11 @@ between g w t k e = go (between-or g w (ltb-true _ _ (q .0)) (ltb-true _ _ (q .1
     go (inl b) n = b
     go (inr d) (inl n) = absurd (let l = leb-true (top binary32) (other g) n in let z : ⊥ = omega (arith, d .1) in z)
     go (inr d) (inr n) = absurd (false≢true (sym (d .0) ∙ ap (within g) (d .1) ∙ n))
+
+-- past the high end of such a row none passes
+pub outside : (g : Gate) (w : ℕ) → plain g ≡ true → w < top binary32 → high g < w → passes g w ≡ false
+outside g w t k h = go (passes g w) refl
+  where
+    go : (b : Bool) → passes g w ≡ b → b ≡ false
+    go true e = absurd (lt-irrefl w (lt-of-le-of-lt (between g w t k e .high) h))
+    go false e = refl

@@ -8,23 +8,27 @@ use mathlib.Core.Logic.{inl, inr}
 use mathlib.Core.Bool.{Bool, true, false, cond, not, _&&_, _||_}
 use mathlib.Core.List.{List, [], _∷_}
 use borrow.Author.Tests.{leb-true, leb-false, ltb-true, ltb-false, lt-ltb, le-ltb, le-leb, eqb-true}
-use lib.Dec.{leb, ltb, eqb}
+use lib.Dec.{leb, ltb, eqb, lit<}
 use lib.ListN.{getD}
 use lib.Pow.{pow-pos}
 use lib.Ieee.{Format, binary32, ones, top, unlike, lt, below, ofBits}
-use lib.Ieee as ieee
+use lib.Ieee as Ieee
 use lib.Ieee.Bits.{toBits-lt}
 use lib.Ieee.Fits.{mul-fits}
 use Rattle.format.specs.Fields.{negative, magnitude, exponent, signBit}
 use Rattle.format.specs.Value.{units, Finite}
+use Rattle.format.specs.Classes.{isZero}
 use Rattle.format.proofs.Fields.{magnitude-lt, sign-and-magnitude}
 use Rattle.format.proofs.Value.{word-value, lt-values}
 use Rattle.format.proofs.Order.{either}
+use Rattle.float.specs.Engine.{ieee}
+use Rattle.float.specs.Cos.{cosWord}
 use Rattle.float.specs.Powf.{productWord}
+use Rattle.float.specs.DivEuclid.{quotientWord}
 use Rattle.sizes.proofs.Words.{units-mono, magnitude-mono}
 use Rattle.guard.specs.declared.gate.Gate.{Gate}
-use Rattle.guard.specs.Operations.{among, opExp, opPowf, opAtan2, opHypot}
-use Rattle.guard.specs.Gates.{low, high, other, unbounded, gates, gateOf, place, passes, larger, judged}
+use Rattle.guard.specs.Operations.{among, opExp, opPowf, opAtan2, opHypot, opTan, opRemEuclid, opDivEuclid}
+use Rattle.guard.specs.Gates.{low, high, other, unbounded, gates, gateOf, place, passes, larger, judgedSize, judged}
 use Rattle.guard.proofs.Open.{both}
 
 -- ---- two tests that agree
@@ -98,8 +102,8 @@ module _ (v w : ℕ) (v-word : v < 2 ^ 32) (w-word : w < 2 ^ 32) where
   module _ (v-finite : Finite binary32 v) (w-finite : Finite binary32 w) where
     pub apart-order : Apart v w → ltb (place v) (place w) ≡ lt (ofBits binary32 v) (ofBits binary32 w)
     apart-order apart =
-        let c = 2 ^ ieee.low binary32 in
-        let h = pow-pos (ieee.low binary32) in
+        let c = 2 ^ Ieee.low binary32 in
+        let h = pow-pos (Ieee.low binary32) in
         by-signs (negative binary32 v) (negative binary32 w) refl refl apart c h
         ∙ sym (lt-values (ofBits binary32 v) (ofBits binary32 w) _ _ (units binary32 v) c (units binary32 w) c h h (word-value binary32 v v-finite) (word-value binary32 w w-finite))
 
@@ -190,20 +194,22 @@ judged-told op a b h = by-exp (eqb op opExp) refl
     clear : (w : ℕ) → w < top binary32 → Told op w
     clear w l = (omega arith, λ d z. omega arith)
 
-    of-two : (t : Bool) → Told op (cond t (magnitude binary32 b) (magnitude binary32 a))
-    of-two true = clear _ (magnitude-lt binary32 b)
-    of-two false = clear _ (magnitude-lt binary32 a)
+    either-lt : (t : Bool) (m n : ℕ) → m < top binary32 → n < top binary32 → cond t m n < top binary32
+    either-lt true m n p q = p
+    either-lt false m n p q = q
 
-    by-size : (t : Bool) → Told op (cond t (larger a b) (magnitude binary32 a))
-    by-size true = of-two (leb (magnitude binary32 a) (magnitude binary32 b))
-    by-size false = clear _ (magnitude-lt binary32 a)
+    size-lt : judgedSize op a b < top binary32
+    size-lt =
+        either-lt (among (opAtan2 ∷ opHypot ∷ []) op) _ _
+        (either-lt (leb (magnitude binary32 a) (magnitude binary32 b)) _ _ (magnitude-lt binary32 b) (magnitude-lt binary32 a))
+        (either-lt (eqb op opTan) _ _ (either-lt (isZero binary32 (cosWord ieee a)) _ _ (lit< tt) (magnitude-lt binary32 a))
+        (either-lt (among (opRemEuclid ∷ opDivEuclid ∷ []) op) _ _ (magnitude-lt binary32 (quotientWord a b)) (magnitude-lt binary32 a)))
 
-    by-powf : (t : Bool) → eqb op opPowf ≡ t → Told op (cond t (productWord a b) (cond (among (opAtan2 ∷ opHypot ∷ []) op) (larger a b) (magnitude binary32 a)))
+    by-powf : (t : Bool) → eqb op opPowf ≡ t → Told op (cond t (productWord a b) (judgedSize op a b))
     by-powf true e = (toBits-lt binary32 _ (mul-fits binary32 _ _), λ d. rw (eqb-true op opPowf e) (λ z. omega arith))
-    by-powf false e = by-size (among (opAtan2 ∷ opHypot ∷ []) op)
+    by-powf false e = clear _ size-lt
 
-    by-exp : (t : Bool) → eqb op opExp ≡ t
-        → Told op (cond t a (cond (eqb op opPowf) (productWord a b) (cond (among (opAtan2 ∷ opHypot ∷ []) op) (larger a b) (magnitude binary32 a))))
+    by-exp : (t : Bool) → eqb op opExp ≡ t → Told op (cond t a (cond (eqb op opPowf) (productWord a b) (judgedSize op a b)))
     by-exp true e = (h, λ d. rw (eqb-true op opExp e) (λ z. omega arith))
     by-exp false e = by-powf (eqb op opPowf) refl
 

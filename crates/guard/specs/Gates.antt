@@ -6,10 +6,14 @@ use mathlib.Core.List.{List, [], _∷_}
 use lib.ListN.{getD}
 use lib.Dec.{leb, eqb}
 use lib.Ieee.{binary32, top, unlike}
-use Rattle.format.specs.Fields.{negative, magnitude}
+use Rattle.format.specs.Fields.{negative, magnitude, infWord}
+use Rattle.format.specs.Classes.{isZero}
+use Rattle.float.specs.Engine.{ieee}
+use Rattle.float.specs.Cos.{cosWord}
 use Rattle.float.specs.Powf.{productWord}
+use Rattle.float.specs.DivEuclid.{quotientWord}
 use Rattle.guard.specs.declared.gate.Gate.{Gate}
-use Rattle.guard.specs.Operations.{among, opExp, opPowf, opAtan2, opHypot}
+use Rattle.guard.specs.Operations.{among, opExp, opPowf, opAtan2, opHypot, opTan, opRemEuclid, opDivEuclid}
 
 abbrev pub low : Gate → ℕ
 low g = g .0
@@ -56,6 +60,11 @@ gates =
     ∷ between 0x0000_0000 0x4480_0000  -- cos: |x| to 1024
     ∷ between 0x0000_0000 0x4480_0000  -- sin: the same
     ∷ between 0x2180_0000 0x5d80_0000  -- hypot: as atan2
+    ∷ between 0x0000_0000 0x3f7f_ffff  -- asin: |x| under 1
+    ∷ row 0x2180_0000 0x3f7f_ffff 0x0000_0000  -- acos: |x| from 2 ^ -60 and under 1, and 0
+    ∷ between 0x0000_0000 0x4480_0000  -- tan: as cos
+    ∷ between 0x0000_0000 0x4aff_ffff  -- rem_euclid: |x / y| under 2 ^ 23
+    ∷ between 0x0000_0000 0x4aff_ffff  -- div_euclid: the same
     ∷ []
 
 abbrev pub gateOf : ℕ → Gate
@@ -75,11 +84,19 @@ passes g w = unlike (within g w) (eqb w (other g))
 abbrev pub larger : ℕ → ℕ → ℕ
 larger a b = let x = magnitude binary32 a in let y = magnitude binary32 b in cond (leb x y) y x
 
--- the word that an operation's gate judges: exp's operand as it is; powf's once rounded n * ln(x); of atan2 and hypot the larger
--- magnitude; elsewhere the first operand's magnitude
-unfoldable pub judged : ℕ → ℕ → ℕ → ℕ
-judged op a b =
-    cond (eqb op opExp) a
-    (cond (eqb op opPowf) (productWord a b)
-    (cond (among (opAtan2 ∷ opHypot ∷ []) op) (larger a b)
+-- the magnitude of a, and past every end where w is a zero
+abbrev pub unlessZero : ℕ → ℕ → ℕ
+unlessZero w a = cond (isZero binary32 w) (infWord binary32) (magnitude binary32 a)
+
+-- the magnitude that an operation's gate judges: of atan2 and hypot the larger of the two; of tan its operand's, unless the cosine is a
+-- zero; of the two euclids the once rounded quotient's; elsewhere the first operand's
+abbrev pub judgedSize : ℕ → ℕ → ℕ → ℕ
+judgedSize op a b =
+    cond (among (opAtan2 ∷ opHypot ∷ []) op) (larger a b)
+    (cond (eqb op opTan) (unlessZero (cosWord ieee a) a)
+    (cond (among (opRemEuclid ∷ opDivEuclid ∷ []) op) (magnitude binary32 (quotientWord a b))
     (magnitude binary32 a)))
+
+-- the word that it judges: exp's operand as it is; powf's once rounded n * ln(x); elsewhere a magnitude
+unfoldable pub judged : ℕ → ℕ → ℕ → ℕ
+judged op a b = cond (eqb op opExp) a (cond (eqb op opPowf) (productWord a b) (judgedSize op a b))

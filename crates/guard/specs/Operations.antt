@@ -67,6 +67,21 @@ opSin = 0x14
 abbrev pub opHypot : ℕ
 opHypot = 0x15
 
+abbrev pub opAsin : ℕ
+opAsin = 0x16
+
+abbrev pub opAcos : ℕ
+opAcos = 0x17
+
+abbrev pub opTan : ℕ
+opTan = 0x18
+
+abbrev pub opRemEuclid : ℕ
+opRemEuclid = 0x19
+
+abbrev pub opDivEuclid : ℕ
+opDivEuclid = 0x1a
+
 -- whether a number is in a list
 abbrev pub among : List ℕ → ℕ → Bool
 among [] op = false

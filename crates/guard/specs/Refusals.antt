@@ -10,7 +10,7 @@ use mir.Syntax.{w32}
 use mir.Val.{toZ}
 use Rattle.format.specs.Classes.{isEndless, isZero, isSmall, isBelowZero}
 use Rattle.guard.specs.declared.gate.Gate.{Gate}
-use Rattle.guard.specs.Operations.{among, opCopysign, opSqrt, opInvsqrt, opInv, opRecip, opLn, opPowi, opPowf, opAtan2, opHypot}
+use Rattle.guard.specs.Operations.{among, opCopysign, opSqrt, opInvsqrt, opInv, opRecip, opLn, opPowi, opPowf, opAtan2, opHypot, opRemEuclid, opDivEuclid}
 use Rattle.guard.specs.Gates.{gateOf, passes, judged}
 
 -- powi's second word as a power: below -2 ^ 20 or above 2 ^ 20
@@ -23,7 +23,7 @@ every op = true
 
 -- the second operand is a float
 abbrev pub twoFloats : ℕ → Bool
-twoFloats = among (opCopysign ∷ opPowf ∷ opAtan2 ∷ opHypot ∷ [])
+twoFloats = among (opCopysign ∷ opPowf ∷ opAtan2 ∷ opHypot ∷ opRemEuclid ∷ opDivEuclid ∷ [])
 
 -- these have no answer for a zero
 abbrev pub refusesZero : ℕ → Bool

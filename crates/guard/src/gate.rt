@@ -1,7 +1,11 @@
 // The gates: which words an operation takes. Every gate's bounds stand in this table and nowhere else.
 ghost use mathlib.Core.Path.{_≡_};
-ghost use Rattle.guard.specs.Gates.{gateOf, place, passes, larger, judged};
+ghost use lib.Ieee.{binary32};
+ghost use Rattle.format.specs.Fields.{magnitude};
+ghost use Rattle.float.specs.DivEuclid.{quotientWord};
+ghost use Rattle.guard.specs.Gates.{gateOf, place, passes, larger, unlessZero, judged};
 use crate::number;
+use crate::refusal;
 use float::F32;
 
 // The lowest and the highest word that pass, both allowed, and a word that is judged the other way:
@@ -17,7 +21,7 @@ const OPEN: Gate = Gate(0x0000_0000, 0x7fff_ffff, NONE);
 
 // By operation number, from 00, which is no operation. An end that is "under" a bound is the word
 // below it.
-const GATES: [Gate; 22] = [
+const GATES: [Gate; 27] = [
     OPEN, // no operation
     Gate(0x0000_0000, 0x4f7f_ffff, NONE), // trunc: |x| under 2^32
     Gate(0x0000_0000, 0x4f7f_ffff, NONE), // fract: the same
@@ -40,13 +44,18 @@ const GATES: [Gate; 22] = [
     Gate(0x0000_0000, 0x4480_0000, NONE), // cos: |x| to 1024
     Gate(0x0000_0000, 0x4480_0000, NONE), // sin: the same
     Gate(0x2180_0000, 0x5d80_0000, NONE), // hypot: as atan2
+    Gate(0x0000_0000, 0x3f7f_ffff, NONE), // asin: |x| under 1
+    Gate(0x2180_0000, 0x3f7f_ffff, 0x0000_0000), // acos: |x| from 2^-60 and under 1, and 0
+    Gate(0x0000_0000, 0x4480_0000, NONE), // tan: as cos
+    Gate(0x0000_0000, 0x4aff_ffff, NONE), // rem_euclid: |x / y| under 2^23
+    Gate(0x0000_0000, 0x4aff_ffff, NONE), // div_euclid: the same
 ];
 
 // The row of an operation. The whole table is copied to read it: keep it out of loops.
 pub fn of(op: u32) -> Gate
     ensures { λ r. ⌜ r ≡ gateOf op ⌝ }
 {
-    if op < 22 {
+    if op < 27 {
         return GATES[op as usize];
     }
     OPEN
@@ -80,6 +89,22 @@ fn larger(a: F32, b: F32) -> u32
     x
 }
 
+// The magnitude of a number, and past every end where another is a zero.
+fn unless_zero(other: F32, x: F32) -> u32
+    ensures { λ r. ⌜ r ≡ unlessZero (other .0) (x .0) ⌝ }
+{
+    if refusal::is_zero(other) {
+        return F32::INFINITY.0;
+    }
+    x.abs().0
+}
+
+fn quotient(x: F32, y: F32) -> u32
+    ensures { λ r. ⌜ r ≡ magnitude binary32 (quotientWord (x .0) (y .0)) ⌝ }
+{
+    F32::of(x.value() / y.value()).abs().0
+}
+
 // The word that an operation's gate judges.
 pub fn judged(op: u32, a: F32, b: F32) -> u32
     ensures { λ r. ⌜ r ≡ judged op (a .0) (b .0) ⌝ }
@@ -88,6 +113,9 @@ pub fn judged(op: u32, a: F32, b: F32) -> u32
         number::EXP => a.0,
         number::POWF => F32::of(b.value() * a.ln().value()).0,
         number::ATAN2 | number::HYPOT => larger(a, b),
+        number::TAN => unless_zero(a.cos(), a),
+        number::REM_EUCLID => quotient(a, b),
+        number::DIV_EUCLID => quotient(a, b),
         _ => a.abs().0,
     }
 }

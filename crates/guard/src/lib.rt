@@ -9,7 +9,7 @@ ghost use Rattle.format.specs.Meaning.{IsTrunc, IsFract, IsFloor, IsCeil, IsRou
 ghost use Rattle.format.specs.Estimates.{SqrtBound, InvBound, InvsqrtBound, InvsqrtTight};
 ghost use Rattle.float.specs.Engine.{ieee};
 ghost use Rattle.float.specs.Atan.{atanNormWord};
-ghost use Rattle.guard.specs.Operations.{opTrunc, opFract, opFloor, opCeil, opRound, opAbs, opCopysign, opSignum, opSqrt, opInvsqrt, opInv, opRecip, opExp, opLn, opPowi, opPowf, opAtan, opAtan2, opCos, opSin, opHypot};
+ghost use Rattle.guard.specs.Operations.{opTrunc, opFract, opFloor, opCeil, opRound, opAbs, opCopysign, opSignum, opSqrt, opInvsqrt, opInv, opRecip, opExp, opLn, opPowi, opPowf, opAtan, opAtan2, opCos, opSin, opHypot, opAsin, opAcos, opTan, opRemEuclid, opDivEuclid};
 ghost use Rattle.guard.specs.Refusals.{refusalOf};
 ghost use Rattle.guard.specs.Guarded.{refusalGiven, wordOf, secondOf, Answered, refusedWith, Gives, Guards, GuardsByNumber, GivesParts};
 use float::F32;
@@ -283,6 +283,51 @@ pub fn hypot(x: F32, y: F32) -> Answer
     )
 }
 
+pub fn asin(x: F32) -> Answer
+    ensures { λ r. ⌜ Guards opAsin (x .0) 0 r ⌝ }
+{
+    answered(
+        refusal::first(gate::of(number::ASIN), number::ASIN, x, 0),
+        x.asin(),
+    )
+}
+
+pub fn acos(x: F32) -> Answer
+    ensures { λ r. ⌜ Guards opAcos (x .0) 0 r ⌝ }
+{
+    answered(
+        refusal::first(gate::of(number::ACOS), number::ACOS, x, 0),
+        x.acos(),
+    )
+}
+
+pub fn tan(x: F32) -> Answer
+    ensures { λ r. ⌜ Guards opTan (x .0) 0 r ⌝ }
+{
+    answered(
+        refusal::first(gate::of(number::TAN), number::TAN, x, 0),
+        x.tan(),
+    )
+}
+
+pub fn rem_euclid(x: F32, y: F32) -> Answer
+    ensures { λ r. ⌜ Guards opRemEuclid (x .0) (y .0) r ⌝ }
+{
+    answered(
+        refusal::first(gate::of(number::REM_EUCLID), number::REM_EUCLID, x, y.0),
+        x.rem_euclid(y),
+    )
+}
+
+pub fn div_euclid(x: F32, y: F32) -> Answer
+    ensures { λ r. ⌜ Guards opDivEuclid (x .0) (y .0) r ⌝ }
+{
+    answered(
+        refusal::first(gate::of(number::DIV_EUCLID), number::DIV_EUCLID, x, y.0),
+        x.div_euclid(y),
+    )
+}
+
 // As a share of a quarter turn. It has no number of its own, and atan's gate.
 pub fn atan_norm(slope: F32) -> Answer
     ensures { λ r. ⌜ Gives (refusalOf opAtan (slope .0) 0) (atanNormWord ieee (slope .0)) r ⌝ }
@@ -336,6 +381,11 @@ pub fn call(op: u32, a: u32, b: u32) -> Answer
         number::COS => cos(F32(a)),
         number::SIN => sin(F32(a)),
         number::HYPOT => hypot(F32(a), F32(b)),
+        number::ASIN => asin(F32(a)),
+        number::ACOS => acos(F32(a)),
+        number::TAN => tan(F32(a)),
+        number::REM_EUCLID => rem_euclid(F32(a), F32(b)),
+        number::DIV_EUCLID => div_euclid(F32(a), F32(b)),
         _ => refused(6),
     }
 }

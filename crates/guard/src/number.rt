@@ -40,3 +40,13 @@ pub const COS: u32 = 0x13;
 pub const SIN: u32 = 0x14;
 
 pub const HYPOT: u32 = 0x15;
+
+pub const ASIN: u32 = 0x16;
+
+pub const ACOS: u32 = 0x17;
+
+pub const TAN: u32 = 0x18;
+
+pub const REM_EUCLID: u32 = 0x19;
+
+pub const DIV_EUCLID: u32 = 0x1a;

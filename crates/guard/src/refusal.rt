@@ -73,8 +73,19 @@ fn is_below_zero(x: F32) -> bool
 fn is_second_refused(op: u32, b: u32) -> bool
     ensures { λ r. ⌜ r ≡ (twoFloats op && isEndless binary32 b) ⌝ }
 {
+    takes_two_floats(op) & is_endless(F32(b))
+}
+
+fn takes_two_floats(op: u32) -> bool
+    ensures { λ r. ⌜ r ≡ twoFloats op ⌝ }
+{
     match op {
-        number::COPYSIGN | number::POWF | number::ATAN2 | number::HYPOT => is_endless(F32(b)),
+        number::COPYSIGN => true,
+        number::POWF => true,
+        number::ATAN2 => true,
+        number::HYPOT => true,
+        number::REM_EUCLID => true,
+        number::DIV_EUCLID => true,
         _ => false,
     }
 }

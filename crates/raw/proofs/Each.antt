@@ -2,7 +2,7 @@
 use Prim.Native.Nat.{ℕ}
 use mathlib.Core.Path.{_≡_, refl}
 use mathlib.Core.List.{List, [], _∷_, map}
-use lib.Ieee.{add, sub, mul, div, lt, le, eq, nanBits, ofBits, toBits, ofInt, toSigned}
+use lib.Ieee.{add, sub, mul, div, rem, lt, le, eq, nanBits, ofBits, toBits, ofInt, toSigned}
 use Rattle.format.specs.Parts.{written}
 use Rattle.float.specs.Recip.{correction, recipWord}
 use Rattle.float.specs.Exp.{series, powerWord, expWord}
@@ -13,6 +13,11 @@ use Rattle.float.specs.Atan.{atanNormWord, atanWord}
 use Rattle.float.specs.Atan2.{quarters, atan2Word}
 use Rattle.float.specs.Cos.{cosWord, sinWord}
 use Rattle.float.specs.Hypot.{hypotWord}
+use Rattle.float.specs.Asin.{asinWord}
+use Rattle.float.specs.Acos.{acosWord}
+use Rattle.float.specs.Tan.{tanWord}
+use Rattle.float.specs.RemEuclid.{remEuclidWord}
+use Rattle.float.specs.DivEuclid.{divEuclidWord}
 use Rattle.raw.specs.Raw.{kernelOf, operandsOf, rawOf}
 
 pub record Case : Type 0 where
@@ -49,12 +54,17 @@ cases =
     ∷ at 19 0x4020_0000 0x0000_0000 1 0xbf4d_48e1  -- cos
     ∷ at 20 0x4020_0000 0x0000_0000 1 0x3f19_50a0  -- sin
     ∷ at 21 0x4020_0000 0x4040_0000 2 0x407a_0000  -- hypot
-    ∷ at 22 0x4020_0000 0x4040_0000 0 0x0000_0000  -- none
+    ∷ at 22 0x3f00_0000 0x0000_0000 1 0x3f09_6859  -- asin
+    ∷ at 23 0x3f00_0000 0x0000_0000 1 0x3f86_3fdf  -- acos
+    ∷ at 24 0x4020_0000 0x0000_0000 1 0xbf3f_30f3  -- tan
+    ∷ at 25 0xc120_0000 0x4040_0000 2 0x4000_0000  -- rem_euclid
+    ∷ at 26 0xc120_0000 0x4040_0000 2 0xc080_0000  -- div_euclid
+    ∷ at 27 0x4020_0000 0x4040_0000 0 0x0000_0000  -- none
     ∷ []
 
 pub numbered : map (λ c. operandsOf (kernelOf (c .number))) cases ≡ map (λ c. c .operands) cases
 numbered = refl
 
 pub answered : map (λ c. rawOf (kernelOf (c .number)) (c .first) (c .second)) cases ≡ map (λ c. c .answer) cases
-unfolding written correction recipWord series powerWord expWord polynomial logarithm lnWord works powiWord powfWord atanNormWord atanWord quarters atan2Word cosWord sinWord hypotWord add sub mul div lt le eq nanBits ofBits toBits ofInt toSigned
+unfolding written correction recipWord series powerWord expWord polynomial logarithm lnWord works powiWord powfWord atanNormWord atanWord quarters atan2Word cosWord sinWord hypotWord asinWord acosWord tanWord remEuclidWord divEuclidWord add sub mul div rem lt le eq nanBits ofBits toBits ofInt toSigned
 answered = refl

@@ -19,6 +19,11 @@ use Rattle.float.specs.Atan.{atanWord}
 use Rattle.float.specs.Atan2.{atan2Word}
 use Rattle.float.specs.Cos.{cosWord, sinWord}
 use Rattle.float.specs.Hypot.{hypotWord}
+use Rattle.float.specs.Asin.{asinWord}
+use Rattle.float.specs.Acos.{acosWord}
+use Rattle.float.specs.Tan.{tanWord}
+use Rattle.float.specs.RemEuclid.{remEuclidWord}
+use Rattle.float.specs.DivEuclid.{divEuclidWord}
 
 pub data Kernel : Type 0 where
   none : Kernel
@@ -50,6 +55,11 @@ kernels =
     ∷ one (cosWord ieee)
     ∷ one (sinWord ieee)
     ∷ two hypotWord
+    ∷ one asinWord
+    ∷ one acosWord
+    ∷ one tanWord
+    ∷ two remEuclidWord
+    ∷ two divEuclidWord
     ∷ []
 
 abbrev pub kernelOf : ℕ → Kernel

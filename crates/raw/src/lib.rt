@@ -31,6 +31,11 @@ pub fn operands(number: u32) -> u32
         0x13 => 1,
         0x14 => 1,
         0x15 => 2,
+        0x16 => 1,
+        0x17 => 1,
+        0x18 => 1,
+        0x19 => 2,
+        0x1a => 2,
         _ => 0,
     }
 }
@@ -62,6 +67,11 @@ pub fn answer(number: u32, a: u32, b: u32) -> u32
         0x13 => F32(a).cos().0,
         0x14 => F32(a).sin().0,
         0x15 => F32(a).hypot(F32(b)).0,
+        0x16 => F32(a).asin().0,
+        0x17 => F32(a).acos().0,
+        0x18 => F32(a).tan().0,
+        0x19 => F32(a).rem_euclid(F32(b)).0,
+        0x1a => F32(a).div_euclid(F32(b)).0,
         _ => 0,
     }
 }

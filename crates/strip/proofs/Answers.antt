@@ -133,24 +133,24 @@ module _ (op a b : ℕ) (known : operandsIn op ≡ 0 → ⊥) where
 -- ---- which numbers are operations
 
 -- no number past the list of kernels has one
-past-the-list : (n : ℕ) → 22 ≤ n → operandsOf (kernelOf n) ≡ 0
+past-the-list : (n : ℕ) → 27 ≤ n → operandsOf (kernelOf n) ≡ 0
 past-the-list n h = ap operandsOf (List·getD-eq-default kernels none h)
 
-listed-number : (n : ℕ) → (operandsOf (kernelOf n) ≡ 0 → ⊥) → (1 ≤ n) × (n ≤ 0x15)
-listed-number n h = (nonzero n h, go (ltb n 22) refl)
+listed-number : (n : ℕ) → (operandsOf (kernelOf n) ≡ 0 → ⊥) → (1 ≤ n) × (n ≤ 0x1a)
+listed-number n h = (nonzero n h, go (ltb n 27) refl)
   where
-    go : (t : Bool) → ltb n 22 ≡ t → n ≤ 0x15
-    go true e = omega (arith, ltb-true n 22 e)
-    go false e = absurd (h (past-the-list n (ltb-false n 22 e)))
+    go : (t : Bool) → ltb n 27 ≡ t → n ≤ 0x1a
+    go true e = omega (arith, ltb-true n 27 e)
+    go false e = absurd (h (past-the-list n (ltb-false n 27 e)))
 
     nonzero : (n : ℕ) → (operandsOf (kernelOf n) ≡ 0 → ⊥) → 1 ≤ n
     nonzero zero h = absurd (h refl)
     nonzero (suc n) h = omega arith
 
--- an operation is one of 01 to 15 or of 81 to 95
-pub no-other-operation : (op : ℕ) → (operandsIn op ≡ 0 → ⊥) → ((1 ≤ op) × (op ≤ 0x15)) ⊎ ((0x81 ≤ op) × (op ≤ 0x95))
+-- an operation is one of 01 to 1a or of 81 to 9a
+pub no-other-operation : (op : ℕ) → (operandsIn op ≡ 0 → ⊥) → ((1 ≤ op) × (op ≤ 0x1a)) ⊎ ((0x81 ≤ op) × (op ≤ 0x9a))
 no-other-operation op h = go (leb 0x80 op) refl h
   where
-    go : (t : Bool) → leb 0x80 op ≡ t → (operandsOf (kernelOf (cond t (op - 0x80) op)) ≡ 0 → ⊥) → ((1 ≤ op) × (op ≤ 0x15)) ⊎ ((0x81 ≤ op) × (op ≤ 0x95))
+    go : (t : Bool) → leb 0x80 op ≡ t → (operandsOf (kernelOf (cond t (op - 0x80) op)) ≡ 0 → ⊥) → ((1 ≤ op) × (op ≤ 0x1a)) ⊎ ((0x81 ≤ op) × (op ≤ 0x9a))
     go true e k = let l = leb-true 0x80 op e in let r = listed-number (op - 0x80) k in inr (omega (arith, l, r .0), omega (arith, l, r .1))
     go false e k = inl (listed-number op k)

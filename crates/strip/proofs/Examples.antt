@@ -3,11 +3,13 @@ use Prim.Native.Nat.{ℕ, suc}
 use mathlib.Core.Path.{_≡_, refl}
 use mathlib.Core.List.{List, [], _∷_, map}
 use lib.ListN.{take}
-use lib.Ieee.{add, sub, mul, div, lt, le, eq, nanBits, ofBits, toBits, ofInt, toSigned}
+use lib.Ieee.{add, sub, mul, div, rem, lt, le, eq, nanBits, ofBits, toBits, ofInt, toSigned}
 use Rattle.float.specs.Atan.{atanNormWord, atanWord}
 use Rattle.float.specs.Atan2.{quarters, atan2Word}
 use Rattle.float.specs.Powi.{works, powiWord}
 use Rattle.float.specs.Hypot.{hypotWord}
+use Rattle.float.specs.RemEuclid.{remEuclidWord}
+use Rattle.float.specs.DivEuclid.{divEuclidWord}
 use Rattle.guard.specs.Gates.{judged}
 use Rattle.guard.specs.Refusals.{refusalBehind}
 use Rattle.strip.specs.Strip.{operandsIn, wordAt, refusalAt, stripRefusal, stripLeaves}
@@ -54,9 +56,12 @@ cases =
     ∷ over 0x15 (two 0x4040_0000 0) (two 0x4080_0000 0) (two 7 7) (two 8 8) (seen 0 (two 0x40a4_0000 0) (two 0 4))
     ∷ over 0x92 (alone 0) (alone 0) (alone 7) (alone 8) (seen 0 (alone 0x7fc0_0000) (alone 0))
     ∷ over 0x12 (alone 0x3f80_0000) (alone 0xc000_0000) (alone 7) (alone 8) (seen 0 (alone 0x402b_374b) (alone 0))
+    -- rem_euclid of -7 by 3 and by 0; div_euclid of the same raw
+    ∷ over 0x19 (two 0xc0e0_0000 0xc0e0_0000) (two 0x4040_0000 0) (two 7 7) (two 8 8) (seen 0 (two 0x4000_0000 0) (two 0 4))
+    ∷ over 0x9a (two 0xc0e0_0000 0xc0e0_0000) (two 0x4040_0000 0) (two 7 7) (two 8 8) (seen 0 (two 0xc040_0000 0xff80_0000) (two 0 0))
     -- no place: answered, and an unknown operation refused
     ∷ over 0x09 [] [] [] [] (seen 0 [] [])
-    ∷ over 0x16 [] [] [] [] (seen 6 [] [])
+    ∷ over 0x1f [] [] [] [] (seen 6 [] [])
     -- each of the lists one too short, and one too long
     ∷ over 0x09 [] (alone 1) (alone 7) (alone 8) (untouched 10)
     ∷ over 0x09 (alone 1) [] (alone 7) (alone 8) (untouched 10)
@@ -71,16 +76,16 @@ cases =
     ∷ over 0x09 (alone 1) (two 1 1) (alone 7) (two 8 8) (seen 10 (alone 7) (two 8 8))
     ∷ over 0x09 (alone 1) (two 1 1) (two 7 7) (alone 8) (seen 10 (two 7 7) (alone 8))
     -- an unknown operation, and one beside lists that do not agree: lengths come first
-    ∷ over 0x16 (alone 1) (alone 1) (alone 7) (alone 8) (untouched 6)
-    ∷ over 0x16 (alone 1) [] (alone 7) (alone 8) (untouched 10)
+    ∷ over 0x1f (alone 1) (alone 1) (alone 7) (alone 8) (untouched 6)
+    ∷ over 0x1f (alone 1) [] (alone 7) (alone 8) (untouched 10)
     ∷ []
 
 pub examples : map (λ c. shows (c .op) (c .first) (c .second) (c .answers) (c .refusals)) cases ≡ map (λ c. c .leaves) cases
-unfolding refusalBehind judged wordAt refusalAt works powiWord atanNormWord atanWord quarters atan2Word hypotWord add sub mul div lt le eq nanBits ofBits toBits ofInt toSigned
+unfolding refusalBehind judged wordAt refusalAt works powiWord atanNormWord atanWord quarters atan2Word hypotWord remEuclidWord divEuclidWord add sub mul div rem lt le eq nanBits ofBits toBits ofInt toSigned
 examples = refl
 
 -- lists that do not agree are told before an operation that is not there
-pub lengths-first : stripRefusal 0x16 (alone 1) [] (alone 7) (alone 8) ≡ 10
+pub lengths-first : stripRefusal 0x1f (alone 1) [] (alone 7) (alone 8) ≡ 10
 lengths-first = refl
 
 -- a refused place is passed, and not the end: the place after it is answered
@@ -96,7 +101,7 @@ old-word-goes = refl
 -- ---- which operations there are, and how many words each reads
 
 abbrev each : List ℕ
-each = 1 ∷ 1 ∷ 1 ∷ 1 ∷ 1 ∷ 1 ∷ 2 ∷ 1 ∷ 1 ∷ 1 ∷ 1 ∷ 1 ∷ 1 ∷ 1 ∷ 2 ∷ 2 ∷ 1 ∷ 2 ∷ 1 ∷ 1 ∷ 2 ∷ []
+each = 1 ∷ 1 ∷ 1 ∷ 1 ∷ 1 ∷ 1 ∷ 2 ∷ 1 ∷ 1 ∷ 1 ∷ 1 ∷ 1 ∷ 1 ∷ 1 ∷ 2 ∷ 2 ∷ 1 ∷ 2 ∷ 1 ∷ 1 ∷ 2 ∷ 1 ∷ 1 ∷ 1 ∷ 2 ∷ 2 ∷ []
 
 -- so many numbers, from one on
 abbrev from : ℕ → List ℕ → List ℕ
@@ -110,7 +115,7 @@ pub raw-operations : map operandsIn (from 0x81 each) ≡ each
 raw-operations = refl
 
 -- the numbers before and after these, and some whose last digits are theirs
-pub no-operations : map operandsIn (0x00 ∷ 0x16 ∷ 0x7f ∷ 0x80 ∷ 0x96 ∷ 0xff ∷ 0x101 ∷ 0x109 ∷ 0x181 ∷ 0x8000_0009 ∷ 0xffff_ffff ∷ []) ≡ 0 ∷ 0 ∷ 0 ∷ 0 ∷ 0 ∷ 0 ∷ 0 ∷ 0 ∷ 0 ∷ 0 ∷ 0 ∷ []
+pub no-operations : map operandsIn (0x00 ∷ 0x1b ∷ 0x7f ∷ 0x80 ∷ 0x9b ∷ 0xff ∷ 0x101 ∷ 0x109 ∷ 0x181 ∷ 0x8000_0009 ∷ 0xffff_ffff ∷ []) ≡ 0 ∷ 0 ∷ 0 ∷ 0 ∷ 0 ∷ 0 ∷ 0 ∷ 0 ∷ 0 ∷ 0 ∷ 0 ∷ []
 no-operations = refl
 
 -- ---- lists that do not agree cannot be cut: the whole is refused, and its first piece is not

@@ -10,7 +10,7 @@ use lib.IntN.{ℤ, pos, negsuc, natAbs}
 use lib.Signed.{ltZ}
 use lib.Ieee.{Float, binary32, fits, neg, ofBits, toBits, lt, eq, nanBits}
 use lib.Ieee.Bits.{toBits-lt, ofBits-fits}
-use lib.Ieee.Fits.{cond-fits, neg-fits, add-fits, mul-fits, div-fits, ofInt-fits}
+use lib.Ieee.Fits.{cond-fits, neg-fits, add-fits, sub-fits, mul-fits, div-fits, rem-fits, ofInt-fits}
 use mir.Syntax.{w32}
 use mir.Val.{ofZ, toZ}
 use Rattle.format.specs.Fields.{negative, magnitude, exponent, signBit}
@@ -32,6 +32,11 @@ use Rattle.float.specs.Atan.{atanWord}
 use Rattle.float.specs.Atan2.{atan2Word}
 use Rattle.float.specs.Cos.{cosWord, sinWord}
 use Rattle.float.specs.Hypot.{hypotWord}
+use Rattle.float.specs.Asin.{asinWord}
+use Rattle.float.specs.Acos.{acosWord}
+use Rattle.float.specs.Tan.{tanWord}
+use Rattle.float.specs.RemEuclid.{remainder, isNotBelow, remEuclidWord}
+use Rattle.float.specs.DivEuclid.{quotientWord, divEuclidWord}
 use Rattle.raw.specs.Raw.{Kernel, kernels, kernelOf, rawOf}
 use Rattle.guard.proofs.Each.{Each, done, _⨟_, of-each}
 
@@ -127,6 +132,32 @@ sin-word w = cos-word _
 hypot-word : (w v : ℕ) → Word (hypotWord w v)
 unfolding hypotWord
 hypot-word w v = sqrt-word _
+
+asin-word : (w : ℕ) → Word (asinWord w)
+unfolding asinWord
+asin-word w = atan-word _
+
+acos-word : (w : ℕ) → Word (acosWord w)
+unfolding acosWord
+acos-word w =
+    let x = ofBits binary32 w in
+    either (lt (ofBits binary32 0) x) _ _ (atan-word _) (either (eq x (ofBits binary32 0)) _ _ (lit< tt) (of-float _ (add-fits binary32 _ _)))
+
+tan-word : (w : ℕ) → Word (tanWord w)
+unfolding tanWord
+tan-word w = of-float _ (div-fits binary32 _ _)
+
+rem-euclid-word : (w v : ℕ) → Word (remEuclidWord w v)
+unfolding remEuclidWord
+rem-euclid-word w v =
+    of-float _
+    (cond-fits binary32 (isNotBelow (remainder w v)) _ _ (rem-fits binary32 (ofBits binary32 w) (ofBits binary32 v) (ofBits-fits binary32 w)) (add-fits binary32 _ _))
+
+div-euclid-word : (w v : ℕ) → Word (divEuclidWord w v)
+unfolding divEuclidWord
+div-euclid-word w v =
+    either (isNotBelow (remainder w v)) _ _ (trunc-word (quotientWord w v) (of-float _ (div-fits binary32 _ _)))
+    (of-float _ (cond-fits binary32 (lt (ofBits binary32 0) (ofBits binary32 v)) _ _ (sub-fits binary32 _ _) (add-fits binary32 _ _)))
 
 -- ---- powi: what it holds is a number of the format after each product
 
@@ -224,6 +255,11 @@ each =
     ⨟ (λ a b h k. cos-word a)
     ⨟ (λ a b h k. sin-word a)
     ⨟ (λ a b h k. hypot-word a b)
+    ⨟ (λ a b h k. asin-word a)
+    ⨟ (λ a b h k. acos-word a)
+    ⨟ (λ a b h k. tan-word a)
+    ⨟ (λ a b h k. rem-euclid-word a b)
+    ⨟ (λ a b h k. div-euclid-word a b)
     ⨟ done
 
 pub raw-word : (n a b : ℕ) → a < 2 ^ 32 → b < 2 ^ 32 → rawOf (kernelOf n) a b < 2 ^ 32

@@ -59,6 +59,11 @@ fn fill_all(op: u32, first: &[u32], second: &[u32], answers: &mut [u32], refusal
         0x13 => fill_kernel(0x13, op, first, second, answers, refusals),
         0x14 => fill_kernel(0x14, op, first, second, answers, refusals),
         0x15 => fill_kernel(0x15, op, first, second, answers, refusals),
+        0x16 => fill_kernel(0x16, op, first, second, answers, refusals),
+        0x17 => fill_kernel(0x17, op, first, second, answers, refusals),
+        0x18 => fill_kernel(0x18, op, first, second, answers, refusals),
+        0x19 => fill_kernel(0x19, op, first, second, answers, refusals),
+        0x1a => fill_kernel(0x1a, op, first, second, answers, refusals),
         _ => fill(op, first, second, answers, refusals),
     }
 }

@@ -53,6 +53,11 @@ call-spec =
     (λ c κs. search needs)
     (λ c κs. search needs)
     (λ c κs. search needs)
+    (λ c κs. search needs)
+    (λ c κs. search needs)
+    (λ c κs. search needs)
+    (λ c κs. search needs)
+    (λ c κs. search needs)
     (λ c. rw (c .before .match .keys1) (c .trunc .ensures .0))
     (λ c. rw (c .before .match .keys2) (c .fract .ensures .0))
     (λ c. rw (c .before .match .keys3) (c .floor .ensures .0))
@@ -74,5 +79,10 @@ call-spec =
     (λ c. rw (c .before .match .keys19) (c .cos .ensures))
     (λ c. rw (c .before .match .keys20) (c .sin .ensures))
     (λ c. rw (c .before .match .keys21) (c .hypot .ensures))
+    (λ c. rw (c .before .match .keys22) (c .asin .ensures))
+    (λ c. rw (c .before .match .keys23) (c .acos .ensures))
+    (λ c. rw (c .before .match .keys24) (c .tan .ensures))
+    (λ c. rw (c .before .match .keys25) (c .rem-euclid .ensures))
+    (λ c. rw (c .before .match .keys26) (c .div-euclid .ensures))
     (λ c. let args = c .before .before .args in rw (c .refused .ensures) (missing (args .op) (args .a) (args .b) (unlisted (args .op) (c .before .match .rest)))) in
     tie.close met
