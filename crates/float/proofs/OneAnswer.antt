@@ -56,6 +56,7 @@ use Rattle.float.proofs.wrap.shr.Reads as shr
 use Rattle.float.proofs.steps.abs_of.Reads as abs-of
 use Rattle.float.proofs.steps.floor_of.Reads as floor-of
 use Rattle.float.proofs.steps.is_at.Reads as is-at
+use Rattle.float.proofs.cos.of_word.Reads as cos-of-word-reads
 
 module _ (κs : Lfts 0) where
   -- ---- the number type and its two conversions
@@ -142,6 +143,9 @@ module _ (κs : Lfts 0) where
 
   pub steps-is-at : OneAnswer (is-at.Post κs) (λ r x. r)
   steps-is-at = pinned _ (λ a r x p. p)
+
+  pub cos-of-word : OneAnswer (cos-of-word-reads.Post κs) (λ r x. r)
+  cos-of-word = pinned _ (λ a r x p. p)
 
   -- ---- the kernels
   pub F32-trunc : OneAnswer (trunc.Post κs) (λ r x. r .0)

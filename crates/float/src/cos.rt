@@ -17,9 +17,18 @@ impl F32 {
     pub fn cos(self) -> F32
         ensures { λ r. ⌜ r .0 ≡ cosWord ieee (self .0) ⌝ }
     {
-        let turns = self.value() * TURN;
-        let part = turns - (0.25 + steps::floor_of(turns + 0.25));
-        let curve = part * (16.0 * (steps::abs_of(part) - 0.5));
-        F32::of(curve + MENDS * curve * (steps::abs_of(curve) - 1.0))
+        F32(of_word(self.0))
     }
+}
+
+// The same from a word to a word. A caller hands over a plain number and keeps no place on its stack for
+// it, so the call by number stays small enough for the loop of a strip, and the compiler sees two calls
+// with one word as one.
+pub fn of_word(w: u32) -> u32
+    ensures { λ r. ⌜ r ≡ cosWord ieee w ⌝ }
+{
+    let turns = F32(w).value() * TURN;
+    let part = turns - (0.25 + steps::floor_of(turns + 0.25));
+    let curve = part * (16.0 * (steps::abs_of(part) - 0.5));
+    F32::of(curve + MENDS * curve * (steps::abs_of(curve) - 1.0)).0
 }

@@ -7,6 +7,7 @@ ghost use Rattle.guard.specs.Gates.{gateOf, place, passes, larger, unles
 use crate::number;
 use crate::refusal;
 use float::F32;
+use float::cos;
 
 // The lowest and the highest word that pass, both allowed, and a word that is judged the other way:
 // between them it does not pass, and elsewhere it does. Words are ordered as the numbers that they
@@ -89,11 +90,11 @@ fn larger(a: F32, b: F32) -> u32
     x
 }
 
-// The magnitude of a number, and past every end where another is a zero.
-fn unless_zero(other: F32, x: F32) -> u32
-    ensures { λ r. ⌜ r ≡ unlessZero (other .0) (x .0) ⌝ }
+// The magnitude of a number, and past every end where another word is a zero.
+fn unless_zero(other: u32, x: F32) -> u32
+    ensures { λ r. ⌜ r ≡ unlessZero other (x .0) ⌝ }
 {
-    if refusal::is_zero(other) {
+    if refusal::is_zero(F32(other)) {
         return F32::INFINITY.0;
     }
     x.abs().0
@@ -113,7 +114,7 @@ pub fn judged(op: u32, a: F32, b: F32) -> u32
         number::EXP => a.0,
         number::POWF => F32::of(b.value() * a.ln().value()).0,
         number::ATAN2 | number::HYPOT => larger(a, b),
-        number::TAN => unless_zero(a.cos(), a),
+        number::TAN => unless_zero(cos::of_word(a.0), a),
         number::REM_EUCLID => quotient(a, b),
         number::DIV_EUCLID => quotient(a, b),
         _ => a.abs().0,

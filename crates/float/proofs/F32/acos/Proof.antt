@@ -7,8 +7,7 @@ use Rattle.float.proofs.F32.acos.Tie as tie
 pub acos-spec : {M : Type 1} → statement M
 unfolding acosWord
 acos-spec =
-    tie.close
-    (tie.spec
+    let met = tie.spec
     (λ c κs. search needs)
     (λ c κs. search needs)
     (λ c κs. search needs)
@@ -20,4 +19,5 @@ acos-spec =
     (λ c κs. search needs)
     (λ c.
     let test = c .before .before .before .before in
-    rw (← test .before .before .value .ensures, test .before .if1 .left, test .if2 .left) (cc)))
+    rw (← test .before .before .value .ensures, test .before .if1 .left, test .if2 .left) (cc)) in
+    tie.close met
