@@ -6,20 +6,23 @@ use lib.Ieee.{binary32}
 use Rattle.format.specs.Classes.{isZero}
 use Rattle.format.specs.Meaning.{IsTrunc, IsFract, IsFloor, IsCeil, IsRound}
 use Rattle.format.specs.Estimates.{sqrtWord, Normal, SqrtBound, InvBound, InvsqrtBound, InvsqrtTight}
-use Rattle.format.proofs.Classes.{normal-of, zero-bound}
+use Rattle.format.proofs.Classes.{finite-of, normal-of, zero-bound}
 use Rattle.format.proofs.PartsMeaning.{trunc-under32, fract-under32}
 use Rattle.format.proofs.FloorMeaning.{floor-is, ceil-is}
 use Rattle.format.proofs.RoundMeaning.{round-is-nearest}
 use Rattle.format.proofs.Sqrt.{sqrt-bound}
 use Rattle.format.proofs.Inv.{inv-bound}
 use Rattle.format.proofs.Invsqrt.{invsqrt-bound, invsqrt-tight}
+use Rattle.float.specs.RemEuclid.{LeftBy}
+use Rattle.sizes.proofs.Euclid.{divisor-not-zero}
+use Rattle.sizes.proofs.Remainder.{rem-euclid-within}
 use Rattle.guard.specs.declared.Answer.{Answer}
-use Rattle.guard.specs.Operations.{opTrunc, opFract, opFloor, opCeil, opRound, opSqrt, opInvsqrt, opInv}
+use Rattle.guard.specs.Operations.{opTrunc, opFract, opFloor, opCeil, opRound, opSqrt, opInvsqrt, opInv, opRemEuclid}
 use Rattle.guard.specs.Gates.{judged}
 use Rattle.guard.specs.Guarded.{wordOf, Answered, Guards}
 use Rattle.guard.proofs.Gives.{answered-none, answered-word}
 use Rattle.guard.proofs.Open.{Open, opened}
-use Rattle.guard.proofs.NoNan.{under32, to31, under23, invertible}
+use Rattle.guard.proofs.NoNan.{under32, to31, under23, invertible, quotient-under}
 
 -- the gate is open to the operands of an answered call
 open-to : (op a b : ℕ) (r : Answer) → Guards op a b r → Answered r → Open op a b
@@ -67,3 +70,11 @@ module _ (a b : ℕ) (r : Answer) where
 
   pub inv-bounded : Guards opInv a b r → Answered r → InvBound binary32 a (wordOf r)
   inv-bounded g h = rw (answered-word g h) (inv-bound binary32 a (invertible a b (open-to opInv a b r g h)))
+
+  -- ---- the remainder
+
+  pub rem-euclid-left : Guards opRemEuclid a b r → Answered r → LeftBy b (wordOf r)
+  unfolding judged
+  rem-euclid-left g h =
+      let o = open-to opRemEuclid a b r g h in
+      rw (answered-word g h) (rem-euclid-within a b (finite-of binary32 a (o .first)) (finite-of binary32 b (o .second)) (divisor-not-zero a b (quotient-under a b (o .gate))))

@@ -101,7 +101,7 @@ module _ (a : ℕ) where
       go true d e = absurd (false≢true e)
       go false d e = (by-magnitude (gateOf opTan) a refl e .high, pos-of-ne-zero (eqb-false _ _ d))
 
-quotient-under : (a b : ℕ) → passes (gateOf opDivEuclid) (magnitude binary32 (quotientWord a b)) ≡ true → magnitude binary32 (quotientWord a b) < 0x4b00_0000
+pub quotient-under : (a b : ℕ) → passes (gateOf opDivEuclid) (magnitude binary32 (quotientWord a b)) ≡ true → magnitude binary32 (quotientWord a b) < 0x4b00_0000
 quotient-under a b e = let r = by-magnitude (gateOf opDivEuclid) (quotientWord a b) refl e in omega arith
 
 -- exp's gate has a sign at its low end

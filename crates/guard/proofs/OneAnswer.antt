@@ -136,7 +136,7 @@ pub tan : (κs : Lfts 0) → OneAnswer (tan-reads.Post κs) (λ r x. r)
 tan κs = pinned _ (λ a r x p. p .answer)
 
 pub rem-euclid : (κs : Lfts 0) → OneAnswer (rem-euclid-reads.Post κs) (λ r x. r)
-rem-euclid κs = pinned _ (λ a r x p. p .answer)
+rem-euclid κs = pinned _ (λ a r x p. p .0 .answer)
 
 pub div-euclid : (κs : Lfts 0) → OneAnswer (div-euclid-reads.Post κs) (λ r x. r)
 div-euclid κs = pinned _ (λ a r x p. p .answer)

@@ -9,6 +9,7 @@ ghost use Rattle.format.specs.Meaning.{IsTrunc, IsFract, IsFloor, IsCeil, IsRou
 ghost use Rattle.format.specs.Estimates.{SqrtBound, InvBound, InvsqrtBound, InvsqrtTight};
 ghost use Rattle.float.specs.Engine.{ieee};
 ghost use Rattle.float.specs.Atan.{atanNormWord};
+ghost use Rattle.float.specs.RemEuclid.{LeftBy};
 ghost use Rattle.guard.specs.Operations.{opTrunc, opFract, opFloor, opCeil, opRound, opAbs, opCopysign, opSignum, opSqrt, opInvsqrt, opInv, opRecip, opExp, opLn, opPowi, opPowf, opAtan, opAtan2, opCos, opSin, opHypot, opAsin, opAcos, opTan, opRemEuclid, opDivEuclid};
 ghost use Rattle.guard.specs.Refusals.{refusalOf};
 ghost use Rattle.guard.specs.Guarded.{refusalGiven, wordOf, secondOf, Answered, refusedWith, Gives, Guards, GuardsByNumber, GivesParts};
@@ -310,8 +311,10 @@ pub fn tan(x: F32) -> Answer
     )
 }
 
+// From 0 to the size of y.
 pub fn rem_euclid(x: F32, y: F32) -> Answer
-    ensures { λ r. ⌜ Guards opRemEuclid (x .0) (y .0) r ⌝ }
+    ensures gate { λ r. ⌜ Guards opRemEuclid (x .0) (y .0) r ⌝ }
+    ensures range { λ r. ⌜ (Answered r → LeftBy (y .0) (wordOf r)) ⌝ }
 {
     answered(
         refusal::first(gate::of(number::REM_EUCLID), number::REM_EUCLID, x, y.0),

@@ -82,7 +82,7 @@ call-spec =
     (λ c. rw (c .before .match .keys22) (c .asin .ensures))
     (λ c. rw (c .before .match .keys23) (c .acos .ensures))
     (λ c. rw (c .before .match .keys24) (c .tan .ensures))
-    (λ c. rw (c .before .match .keys25) (c .rem-euclid .ensures))
+    (λ c. rw (c .before .match .keys25) (c .rem-euclid .ensures .0))
     (λ c. rw (c .before .match .keys26) (c .div-euclid .ensures))
     (λ c. let args = c .before .before .args in rw (c .refused .ensures) (missing (args .op) (args .a) (args .b) (unlisted (args .op) (c .before .match .rest)))) in
     tie.close met
