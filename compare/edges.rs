@@ -15,13 +15,13 @@ enum Says {
 
 use Says::{Answers, Gives, Refuses};
 
-/// Every kernel: the first operand of each is a float.
+/// Every kernel but those of `LAST`: the first operand of each is a float.
 const ALL: &str = "trunc fract floor ceil round abs copysign signum sqrt invsqrt inv recip exp ln powi powf atan atan_norm atan2 cos sin hypot";
 
 /// Kernels, their two words, and what is said of them.
 type Row = (&'static str, u32, u32, Says);
 
-/// The words of these stand in the midst of the stored list: a new row goes to the end of `LATER`.
+/// The words of these stand in the midst of the stored list: a new row goes to `LAST`.
 const EDGES: &[Row] = &[
     // 1: infinities and NaN, whatever else holds, and the last words before them
     (ALL, 0x7f80_0000, 0, Refuses(1)),
@@ -198,7 +198,7 @@ const EDGES: &[Row] = &[
     ("powi", 0x4040_0000, 128, Gives(0x7f80_0000)),
 ];
 
-/// More of them, in the order in which they came. The stored list ends with their words, a row at a time.
+/// More of them, in the order in which they came. Their words stand in the stored list too, a row at a time.
 const LATER: &[Row] = &[
     // a zero before the gate and the power, with either sign
     ("powf", 0x0000_0000, 0x7f7f_ffff, Refuses(2)),
@@ -232,6 +232,177 @@ const LATER: &[Row] = &[
     ("atan2 hypot", 0x3f80_0000, 0x8000_0000, Answers),
 ];
 
+/// Those of asin, acos, tan and the two euclids. The stored list ends with their words, a row at a time, and a new row goes last.
+const LAST: &[Row] = &[
+    // 1: infinities and NaN, whatever else holds, and the last words before them
+    ("asin acos tan rem_euclid div_euclid", 0x7f80_0000, 0, Refuses(1)),
+    ("asin acos tan rem_euclid div_euclid", 0xff80_0000, 0, Refuses(1)),
+    ("asin acos tan rem_euclid div_euclid", 0x7f80_0001, 0, Refuses(1)),
+    ("asin acos tan rem_euclid div_euclid", 0x7fc0_0000, 0, Refuses(1)),
+    ("asin acos tan rem_euclid div_euclid", 0xffff_ffff, 0, Refuses(1)),
+    ("asin acos tan rem_euclid div_euclid", 0x7f7f_ffff, 0, Refuses(4)),
+    ("asin acos tan rem_euclid div_euclid", 0xff7f_ffff, 0, Refuses(4)),
+    // ... in either operand, where the quotient would be within the gate too
+    ("rem_euclid div_euclid", 0x3f80_0000, 0x7f80_0000, Refuses(1)),
+    ("rem_euclid div_euclid", 0xbf80_0000, 0x7f80_0000, Refuses(1)),
+    ("rem_euclid div_euclid", 0x3f80_0000, 0xff80_0000, Refuses(1)),
+    ("rem_euclid div_euclid", 0x3f80_0000, 0x7f80_0001, Refuses(1)),
+    ("rem_euclid div_euclid", 0x3f80_0000, 0xffc0_0000, Refuses(1)),
+    ("rem_euclid div_euclid", 0x0000_0000, 0x7fc0_0000, Refuses(1)),
+    ("rem_euclid div_euclid", 0x0000_0001, 0xff80_0000, Refuses(1)),
+    ("rem_euclid div_euclid", 0x7f80_0000, 0x3f80_0000, Refuses(1)),
+    ("rem_euclid div_euclid", 0xff80_0000, 0xbf80_0000, Refuses(1)),
+    ("rem_euclid div_euclid", 0x7fc0_0000, 0x3f80_0000, Refuses(1)),
+    ("rem_euclid div_euclid", 0x7f80_0000, 0x7f80_0000, Refuses(1)),
+    ("rem_euclid div_euclid", 0x7fc0_0000, 0x8000_0000, Refuses(1)),
+    ("rem_euclid div_euclid", 0x3f80_0000, 0x7f7f_ffff, Answers),
+    ("rem_euclid div_euclid", 0xbf80_0000, 0xff7f_ffff, Answers),
+    ("rem_euclid div_euclid", 0x7f7f_ffff, 0x7f7f_ffff, Answers),
+    ("rem_euclid div_euclid", 0xff7f_ffff, 0x7f7f_ffff, Answers),
+    // zeros and small numbers have their IEEE value, and a number below 0 is as good as one above
+    ("asin", 0x0000_0000, 0, Gives(0x0000_0000)),
+    ("asin", 0x8000_0000, 0, Gives(0x8000_0000)),
+    ("asin", 0x0000_0001, 0, Answers),
+    ("asin", 0x807f_ffff, 0, Answers),
+    // ... but that the sine of a small number is 0, and tan with it
+    ("tan", 0x0000_0000, 0, Gives(0x0000_0000)),
+    ("tan", 0x8000_0000, 0, Gives(0x0000_0000)),
+    ("tan", 0x0000_0001, 0, Gives(0x0000_0000)),
+    ("tan", 0x807f_ffff, 0, Gives(0x0000_0000)),
+    ("rem_euclid", 0x0000_0000, 0x3f80_0000, Gives(0x0000_0000)),
+    ("div_euclid", 0x0000_0000, 0x3f80_0000, Gives(0x0000_0000)),
+    ("rem_euclid", 0x8000_0000, 0x3f80_0000, Gives(0x8000_0000)),
+    ("div_euclid", 0x8000_0000, 0x3f80_0000, Gives(0x8000_0000)),
+    ("rem_euclid", 0x0000_0000, 0x0000_0001, Gives(0x0000_0000)),
+    ("div_euclid", 0x0000_0000, 0x0000_0001, Gives(0x0000_0000)),
+    ("rem_euclid", 0x0000_0000, 0x8000_0001, Gives(0x0000_0000)),
+    ("div_euclid", 0x0000_0000, 0x8000_0001, Gives(0x8000_0000)),
+    ("rem_euclid", 0x0000_0001, 0x3f80_0000, Gives(0x0000_0001)),
+    ("div_euclid", 0x0000_0001, 0x3f80_0000, Gives(0x0000_0000)),
+    // the sum with the divisor rounds to it
+    ("rem_euclid", 0x8000_0001, 0x3f80_0000, Gives(0x3f80_0000)),
+    ("div_euclid", 0x8000_0001, 0x3f80_0000, Gives(0xbf80_0000)),
+    ("rem_euclid", 0x807f_ffff, 0xbf80_0000, Gives(0x3f80_0000)),
+    ("div_euclid", 0x807f_ffff, 0xbf80_0000, Gives(0x3f80_0000)),
+    // both are small
+    ("rem_euclid", 0x0000_0005, 0x0000_0003, Gives(0x0000_0002)),
+    ("div_euclid", 0x0000_0005, 0x0000_0003, Gives(0x3f80_0000)),
+    ("rem_euclid", 0x8000_0005, 0x0000_0003, Gives(0x0000_0001)),
+    ("div_euclid", 0x8000_0005, 0x0000_0003, Gives(0xc000_0000)),
+    // 4: asin, |x| under 1
+    ("asin", 0x3f7f_ffff, 0, Answers),
+    ("asin", 0x3f80_0000, 0, Refuses(4)),
+    ("asin", 0x3f80_0001, 0, Refuses(4)),
+    ("asin", 0x4000_0000, 0, Refuses(4)),
+    ("asin", 0xbf7f_ffff, 0, Answers),
+    ("asin", 0xbf80_0000, 0, Refuses(4)),
+    ("asin", 0xbf80_0001, 0, Refuses(4)),
+    ("asin", 0xc000_0000, 0, Refuses(4)),
+    // acos, a zero, or |x| from 2^-60
+    ("acos", 0x0000_0000, 0, Gives(0x3fc9_0fdb)),
+    ("acos", 0x8000_0000, 0, Gives(0x3fc9_0fdb)),
+    ("acos", 0x0000_0001, 0, Refuses(4)),
+    ("acos", 0x8000_0001, 0, Refuses(4)),
+    ("acos", 0x007f_ffff, 0, Refuses(4)),
+    ("acos", 0x807f_ffff, 0, Refuses(4)),
+    ("acos", 0x0080_0000, 0, Refuses(4)),
+    ("acos", 0x8080_0000, 0, Refuses(4)),
+    ("acos", 0x1f80_0000, 0, Refuses(4)),
+    ("acos", 0x9f80_0000, 0, Refuses(4)),
+    ("acos", 0x217f_ffff, 0, Refuses(4)),
+    ("acos", 0xa17f_ffff, 0, Refuses(4)),
+    ("acos", 0x2180_0000, 0, Gives(0x3fc9_0fdb)),
+    ("acos", 0xa180_0000, 0, Gives(0x3fc9_0fdb)),
+    // ... and under 1
+    ("acos", 0x3f7f_ffff, 0, Gives(0x39b3_d987)),
+    ("acos", 0x3f80_0000, 0, Refuses(4)),
+    ("acos", 0x3f80_0001, 0, Refuses(4)),
+    ("acos", 0xbf7f_ffff, 0, Gives(0x4049_0a3c)),
+    ("acos", 0xbf80_0000, 0, Refuses(4)),
+    ("acos", 0xbf80_0001, 0, Refuses(4)),
+    // tan, |x| to 1024
+    ("tan", 0x4480_0000, 0, Answers),
+    ("tan", 0x4480_0001, 0, Refuses(4)),
+    ("tan", 0xc480_0000, 0, Answers),
+    ("tan", 0xc480_0001, 0, Refuses(4)),
+    // ... where the cosine is no zero: it is one at pi/2 and -pi/2, and at bfc90fda, but not at 3fc90fda
+    ("tan", 0x3fc9_0fda, 0, Gives(0x4b25_294a)),
+    ("tan", 0x3fc9_0fdb, 0, Refuses(4)),
+    ("tan", 0x3fc9_0fdc, 0, Answers),
+    ("tan", 0xbfc9_0fd9, 0, Answers),
+    ("tan", 0xbfc9_0fda, 0, Refuses(4)),
+    ("tan", 0xbfc9_0fdb, 0, Refuses(4)),
+    ("tan", 0xbfc9_0fdc, 0, Answers),
+    ("tan", 0x4096_cbe3, 0, Answers),
+    ("tan", 0x4096_cbe4, 0, Refuses(4)),
+    ("tan", 0xc096_cbe4, 0, Refuses(4)),
+    ("tan", 0xc096_cbe5, 0, Answers),
+    // 447fa5a9 is the last of them
+    ("tan", 0x447f_a5a8, 0, Answers),
+    ("tan", 0x447f_a5a9, 0, Refuses(4)),
+    ("tan", 0xc47f_a5a9, 0, Refuses(4)),
+    ("tan", 0xc47f_a5aa, 0, Answers),
+    // the sine of pi is a zero, and the cosine is -1
+    ("tan", 0x4049_0fdb, 0, Gives(0x8000_0000)),
+    // the two euclids: the divisor is no zero
+    ("rem_euclid div_euclid", 0x3f80_0000, 0x0000_0000, Refuses(4)),
+    ("rem_euclid div_euclid", 0x3f80_0000, 0x8000_0000, Refuses(4)),
+    ("rem_euclid div_euclid", 0xbf80_0000, 0x0000_0000, Refuses(4)),
+    ("rem_euclid div_euclid", 0xbf80_0000, 0x8000_0000, Refuses(4)),
+    ("rem_euclid div_euclid", 0x0000_0000, 0x0000_0000, Refuses(4)),
+    ("rem_euclid div_euclid", 0x0000_0000, 0x8000_0000, Refuses(4)),
+    ("rem_euclid div_euclid", 0x8000_0000, 0x0000_0000, Refuses(4)),
+    ("rem_euclid div_euclid", 0x8000_0000, 0x8000_0000, Refuses(4)),
+    ("rem_euclid div_euclid", 0x0000_0001, 0x0000_0000, Refuses(4)),
+    // ... and the quotient's magnitude is under 2^23
+    ("rem_euclid div_euclid", 0x4aff_ffff, 0x3f80_0000, Answers),
+    ("rem_euclid div_euclid", 0x4b00_0000, 0x3f80_0000, Refuses(4)),
+    ("rem_euclid div_euclid", 0x4aff_ffff, 0xbf80_0000, Answers),
+    ("rem_euclid div_euclid", 0x4b00_0000, 0xbf80_0000, Refuses(4)),
+    ("rem_euclid div_euclid", 0xcaff_ffff, 0x3f80_0000, Answers),
+    ("rem_euclid div_euclid", 0xcb00_0000, 0x3f80_0000, Refuses(4)),
+    ("rem_euclid div_euclid", 0xcaff_ffff, 0xbf80_0000, Answers),
+    ("rem_euclid div_euclid", 0xcb00_0000, 0xbf80_0000, Refuses(4)),
+    ("rem_euclid div_euclid", 0x4b00_0001, 0x3f80_0000, Refuses(4)),
+    ("rem_euclid div_euclid", 0x4f80_0001, 0x3f80_0000, Refuses(4)),
+    // ... whatever the operands are: both past it, and both far below
+    ("rem_euclid div_euclid", 0x4bbf_ffff, 0x4040_0000, Answers),
+    ("rem_euclid div_euclid", 0x4bc0_0000, 0x4040_0000, Refuses(4)),
+    ("rem_euclid div_euclid", 0x7f00_0000, 0x7380_0001, Answers),
+    ("rem_euclid div_euclid", 0x7f00_0000, 0x7380_0000, Refuses(4)),
+    ("rem_euclid div_euclid", 0x7f00_0000, 0xf380_0001, Answers),
+    ("rem_euclid div_euclid", 0xff00_0000, 0x7380_0000, Refuses(4)),
+    ("rem_euclid", 0x007f_ffff, 0x0000_0001, Gives(0x0000_0000)),
+    ("div_euclid", 0x007f_ffff, 0x0000_0001, Gives(0x4aff_fffe)),
+    ("rem_euclid div_euclid", 0x0080_0000, 0x0000_0001, Refuses(4)),
+    ("rem_euclid", 0x807f_ffff, 0x8000_0001, Gives(0x8000_0000)),
+    ("div_euclid", 0x807f_ffff, 0x8000_0001, Gives(0x4aff_fffe)),
+    ("rem_euclid div_euclid", 0x8080_0000, 0x0000_0001, Refuses(4)),
+    // ... and where it is infinite
+    ("rem_euclid div_euclid", 0x3f80_0000, 0x0000_0001, Refuses(4)),
+    ("rem_euclid div_euclid", 0xff7f_ffff, 0x007f_ffff, Refuses(4)),
+    // 7 and 4, and 6 and 3, with either sign
+    ("rem_euclid", 0x40e0_0000, 0x4080_0000, Gives(0x4040_0000)),
+    ("rem_euclid", 0xc0e0_0000, 0x4080_0000, Gives(0x3f80_0000)),
+    ("rem_euclid", 0x40e0_0000, 0xc080_0000, Gives(0x4040_0000)),
+    ("rem_euclid", 0xc0e0_0000, 0xc080_0000, Gives(0x3f80_0000)),
+    ("div_euclid", 0x40e0_0000, 0x4080_0000, Gives(0x3f80_0000)),
+    ("div_euclid", 0xc0e0_0000, 0x4080_0000, Gives(0xc000_0000)),
+    ("div_euclid", 0x40e0_0000, 0xc080_0000, Gives(0xbf80_0000)),
+    ("div_euclid", 0xc0e0_0000, 0xc080_0000, Gives(0x4000_0000)),
+    ("rem_euclid", 0x40c0_0000, 0x4040_0000, Gives(0x0000_0000)),
+    ("rem_euclid", 0xc0c0_0000, 0x4040_0000, Gives(0x8000_0000)),
+    ("rem_euclid", 0xc0c0_0000, 0xc040_0000, Gives(0x8000_0000)),
+    ("div_euclid", 0x40c0_0000, 0xc040_0000, Gives(0xc000_0000)),
+    ("div_euclid", 0xc0c0_0000, 0x4040_0000, Gives(0xc000_0000)),
+    ("div_euclid", 0xc0c0_0000, 0xc040_0000, Gives(0x4000_0000)),
+    // a quotient that rounds up to 3, where nearly the whole divisor is left
+    ("rem_euclid", 0x4080_0000, 0x3faa_aaab, Gives(0x3faa_aaaa)),
+    ("div_euclid", 0x4080_0000, 0x3faa_aaab, Gives(0x4040_0000)),
+    ("rem_euclid", 0xc080_0000, 0x3faa_aaab, Gives(0x3400_0000)),
+    ("div_euclid", 0xc080_0000, 0x3faa_aaab, Gives(0xc080_0000)),
+];
+
 impl Says {
     fn refusal(self) -> u64 {
         match self {
@@ -255,21 +426,39 @@ fn rows(list: &'static [Row]) -> impl Iterator<Item = Row> {
     list.iter().flat_map(|&(names, a, b, says)| names.split(' ').map(move |name| (name, a, b, says)))
 }
 
-/// The words that the first list has for the kernel of this name.
-pub fn words_of(name: &str) -> Vec<(u32, u32)> {
-    rows(EDGES).filter(|row| row.0 == name).map(|(_, a, b, _)| (a, b)).collect()
+/// All lists, with one kernel to a row.
+fn all() -> impl Iterator<Item = Row> {
+    [EDGES, LATER, LAST].into_iter().flat_map(rows)
 }
 
-/// Those that came later, each with the name of its kernel.
+/// The words that the lists have for the kernel of this name.
+pub fn words_of(name: &str) -> Vec<(u32, u32)> {
+    of(all(), name)
+}
+
+/// Those of the first list alone.
+pub fn first_of(name: &str) -> Vec<(u32, u32)> {
+    of(rows(EDGES), name)
+}
+
+fn of(rows: impl Iterator<Item = Row>, name: &str) -> Vec<(u32, u32)> {
+    rows.filter(|row| row.0 == name).map(|(_, a, b, _)| (a, b)).collect()
+}
+
+/// Those that came later, and those that came last, each with the name of its kernel.
 pub fn later() -> impl Iterator<Item = (&'static str, u32, u32)> {
     rows(LATER).map(|(name, a, b, _)| (name, a, b))
+}
+
+pub fn last() -> impl Iterator<Item = (&'static str, u32, u32)> {
+    rows(LAST).map(|(name, a, b, _)| (name, a, b))
 }
 
 /// Tries the list on the kernels that are wanted. This program's own gates have to be those of the list.
 pub fn edges(wanted: impl Fn(&Kernel) -> bool) -> Count {
     let guarded = guarded();
     let mut count = Count::default();
-    for (name, a, b, says) in rows(EDGES).chain(rows(LATER)) {
+    for (name, a, b, says) in all() {
         let kernel = guarded.iter().find(|k| k.name == name).expect("a kernel has this name");
         assert_eq!(kernel.refusal(a, b), says.refusal(), "gates.rs at {name} of {a:08x} {b:08x}");
         if wanted(kernel) {

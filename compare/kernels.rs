@@ -1,6 +1,7 @@
 //! What is compared: each kernel of ours, raw and guarded, beside the crate's, with the rule by which two words agree.
 
 use crate::gates::Gate;
+use crate::remainder;
 use micromath::{helpers, F32};
 use std::f32::consts;
 
@@ -63,6 +64,8 @@ pub enum Takes {
     Power,
     /// A number and a power that is a number too.
     FloatPower,
+    /// A number and what it is divided by.
+    Divisor,
 }
 
 /// When the crate's word and ours agree.
@@ -252,7 +255,8 @@ macro_rules! guarded {
     };
 }
 
-/// The raw kernels. A NaN that reaches exp is skipped, so each NaN that exp then gives is one that `set_exponent` built.
+/// The raw kernels. A NaN that reaches exp is skipped, so each NaN that exp then gives is one that `set_exponent` built. Where
+/// div_euclid's quotient is a NaN it is skipped too: trunc reads its bits.
 fn raw() -> Vec<Kernel> {
     vec![
         raw!(0x81, "trunc", One, Nan, |a, _| f(a).trunc().to_bits()),
@@ -277,6 +281,11 @@ fn raw() -> Vec<Kernel> {
         raw!(0x93, "cos", One, Nan, |a, _| f(a).cos().to_bits()),
         raw!(0x94, "sin", One, Nan, |a, _| f(a).sin().to_bits()),
         raw!(0x95, "hypot", Two, Nan, |a, b| f(a).hypot(f(b)).to_bits()),
+        raw!(0x96, "asin", One, Nan, |a, _| f(a).asin().to_bits()),
+        raw!(0x97, "acos", One, Nan, |a, _| helpers::acos(f(a)).to_bits()),
+        raw!(0x98, "tan", One, Nan, |a, _| f(a).tan().to_bits()),
+        raw!(0x99, "rem_euclid", Divisor, Nan, |a, b| f(a).rem_euclid(f(b)).to_bits()),
+        raw!(0x9a, "div_euclid", Divisor, Nan, |a, b| f(a).div_euclid(f(b)).to_bits(), skips: |a, b| (f(a) / f(b)).is_nan()),
         own!("atan_norm", One, Nan, |a, _| f(a).atan_norm().to_bits(), |a, _| unsafe { dampmeadow_atan_norm(a) as u64 }),
     ]
 }
@@ -343,6 +352,19 @@ fn helpers() -> Vec<Kernel> {
     ]
 }
 
-pub fn all() -> Vec<Kernel> {
+/// Raw rem_euclid and div_euclid again, with the steps over `remainder.rs` in the crate's place. Nothing is skipped.
+fn by_whole_numbers() -> Vec<Kernel> {
+    vec![
+        own!("rem_euclid by whole numbers", Divisor, Exact, remainder::rem_euclid, |a, b| words(0x99, a, b)),
+        own!("div_euclid by whole numbers", Divisor, Exact, remainder::div_euclid, |a, b| words(0x9a, a, b)),
+    ]
+}
+
+/// What stands beside the crate itself.
+pub fn beside_the_crate() -> Vec<Kernel> {
     guarded().into_iter().chain(raw()).chain(helpers()).collect()
+}
+
+pub fn all() -> Vec<Kernel> {
+    beside_the_crate().into_iter().chain(by_whole_numbers()).collect()
 }

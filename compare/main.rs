@@ -9,6 +9,7 @@ mod kernels;
 mod lines;
 mod reader;
 mod refusals;
+mod remainder;
 mod speed;
 mod steps;
 mod strips;
@@ -91,7 +92,7 @@ fn main() {
     if let Some(of) = &wanted.frames {
         exit(frames(of));
     }
-    let all = kernels::all();
+    let all = if wanted.speed { kernels::beside_the_crate() } else { kernels::all() };
     if let Some(key) = wanted.only.iter().find(|key| !all.iter().any(|k| k.key() == **key)) {
         eprintln!("compare: nothing here has the number or name {key:?}");
         exit(2);

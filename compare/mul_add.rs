@@ -1,5 +1,5 @@
 //! In the place of the crate's `mul_add`, which no kernel here needs. As a module below `float` it can also hand out the
-//! helpers that the crate keeps to itself.
+//! helpers that the crate keeps to itself, and acos, which it keeps too.
 
 pub mod helpers {
     use super::super::F32;
@@ -26,5 +26,9 @@ pub mod helpers {
 
     pub fn is_even(x: F32) -> bool {
         x.is_even()
+    }
+
+    pub fn acos(x: F32) -> F32 {
+        x.acos()
     }
 }

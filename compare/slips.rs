@@ -10,6 +10,7 @@ mod float;
 mod gates;
 pub mod kernels;
 mod reader;
+mod remainder;
 pub mod sweep;
 mod words;
 

@@ -94,7 +94,7 @@ fn timed(mut sides: Vec<Side>, turns: usize, divided: f64, unit: &str) -> String
 pub fn usual(takes: Takes, random: &mut Random) -> (u32, u32) {
     match takes {
         Takes::One => (random.near_one(), 0),
-        Takes::Two | Takes::FloatPower => (random.near_one(), random.near_one()),
+        Takes::Two | Takes::FloatPower | Takes::Divisor => (random.near_one(), random.near_one()),
         Takes::Power => random.power(),
     }
 }

@@ -42,6 +42,15 @@ const STEPS: &[(&str, &[(u32, u32)])] = &[
     ("atan2", &[(0xc140_0000, 0x41eb_0000)]),
     ("cos", &[(0x3fd1_0000, 0)]),
     ("sin", &[(0xbe00_0000, 0)]),
+    ("asin", &[(0x3f7e_0000, 0), (0xbf7e_0000, 0)]),
+    ("acos", &[(0x3f7e_0000, 0), (0xbf7e_0000, 0)]),
+    // either sign of the sine and of the cosine
+    ("tan", &[(0x3f80_0000, 0), (0xbf80_0000, 0), (0x4000_0000, 0), (0xc000_0000, 0)]),
+    // just past twice the divisor, where nearly nothing is left, and just before
+    ("rem_euclid", &[(0x40c0_0001, 0x4040_0000), (0xc0c0_0001, 0x4040_0000), (0xc0c0_0001, 0xc040_0000), (0xc0bf_ffff, 0xc040_0000)]),
+    ("div_euclid", &[(0x40c0_0001, 0x4040_0000), (0xc0c0_0001, 0x4040_0000), (0xc0c0_0001, 0xc040_0000), (0xc0bf_ffff, 0xc040_0000)]),
+    // a quotient between 0 and 1, or -1
+    ("div_euclid", &[(0xbf00_0000, 0x3f80_0000), (0xbf00_0000, 0xbf80_0000), (0x3f00_0000, 0xbf80_0000)]),
 ];
 
 /// The words that the list has for the kernel of this name.

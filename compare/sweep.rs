@@ -101,7 +101,7 @@ impl Plan {
         match self.takes {
             Takes::One if self.every => 1 << 32,
             Takes::One => n + self.strides + self.random,
-            Takes::Two | Takes::Power | Takes::FloatPower => n * n + self.random,
+            Takes::Two | Takes::Power | Takes::FloatPower | Takes::Divisor => n * n + self.random,
         }
     }
 
@@ -116,6 +116,7 @@ impl Plan {
             Takes::Two => random.pair(),
             Takes::Power => random.power_or_end(),
             Takes::FloatPower => random.float_power(),
+            Takes::Divisor => random.divisor(),
         }
     }
 

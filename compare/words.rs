@@ -90,6 +90,33 @@ impl Random {
         }
     }
 
+    /// A number and a divisor. Of any two words most have a quotient that is nearly 0 or past the gate, so most of these are
+    /// nearer: a divisor from four times the number's size down to 2^-26 of it; a whole multiple of the divisor, or a neighbour
+    /// of one; a divisor that makes the quotient 2^23 or another whole number, or a neighbour of it. Some have a zero or a small
+    /// number.
+    pub fn divisor(&mut self) -> (u32, u32) {
+        let (a, b, digits) = (finite(self.word()), finite(self.word()), self.below(24));
+        let sign = self.word() & 0x8000_0000;
+        // a whole number of no more digits
+        let whole = (1 + self.below(1 << digits)) as f32;
+        match self.below(8) {
+            0 => self.pair(),
+            1 | 2 => {
+                let field = (a >> 23 & 0xff) as i32 + 2 - self.below(29) as i32;
+                (a, b & 0x807f_ffff | (field.clamp(0, 254) as u32) << 23)
+            }
+            kind @ (3 | 4) => {
+                // the divisor has so few digits that the product has 24 and is exact
+                let b = b & !0 << digits;
+                let multiple = (whole * f32::from_bits(b)).to_bits() ^ sign;
+                (if kind == 3 { multiple } else { near(multiple, self.word()) }, b)
+            }
+            5 => (a, near((f32::from_bits(a) / 8_388_608.0).to_bits() ^ sign, self.word())),
+            6 => (a, near((f32::from_bits(a) / whole).to_bits() ^ sign, self.word())),
+            _ => self.one_of(&[(a & 0x807f_ffff, b & 0x807f_ffff), (a & 0x807f_ffff, b), (a & 0x8000_0003, b), (a, b & 0x8000_0003), (a, sign)]),
+        }
+    }
+
     /// Words for a kernel that takes these, the second 0 where it is not used: words that have an edge in them, words at the ends
     /// of gates, words about 1, or any.
     pub fn operands(&mut self, takes: Takes, edges: &[u32]) -> (u32, u32) {
@@ -102,6 +129,7 @@ impl Random {
             Takes::Two => self.pair(),
             Takes::Power => self.power_or_end(),
             Takes::FloatPower => self.float_power(),
+            Takes::Divisor => self.divisor(),
         }
     }
 }
@@ -109,6 +137,15 @@ impl Random {
 /// One of the nine words from four below `n` to four above it, by `k`.
 fn near(n: u32, k: u32) -> u32 {
     n.wrapping_add(k % 9).wrapping_sub(4)
+}
+
+/// The word itself, or one of the same sign and digits if it is no finite number.
+fn finite(w: u32) -> u32 {
+    if w & 0x7f80_0000 == 0x7f80_0000 {
+        w ^ 0x4000_0000
+    } else {
+        w
+    }
 }
 
 /// A word of the same sign and digits, within sixteen powers of two of 1.

@@ -3,12 +3,16 @@
  * Link it with the library: target/staticlib/libdampmeadow.a, which `rt staticlib dampmeadow` builds for x86-64 Linux. Its
  * objects are in Linux's format, ELF, which the linkers of other systems do not take.
  *
- *   cc -I include program.c target/staticlib/libdampmeadow.a
+ *   cc -I include program.c target/staticlib/libdampmeadow.a -lm
  *
- * The library needs no other one, not even the C library. It keeps nothing between calls, so any number of threads may call
- * it at once. It counts on the processor's usual float settings: rounding to nearest, and numbers too small to be normal
- * kept as they are. (A program linked with -ffast-math may start with other settings, and then the answers are not ours:
- * docs/GUIDE.md has what changes.)
+ * The library needs one function from outside, fmodf, the remainder of two floats, and nothing else. Every program that links
+ * it needs fmodf, whatever it calls. It is in the C library's mathematics, libm: hence the -lm, which stands after the library
+ * that asks for it. A controller without a C library supplies its own, a function float fmodf(float, float) that gives the
+ * exact remainder: docs/GUIDE.md has what is asked of it, and bindings/c/fmodf.c is one.
+ *
+ * It keeps nothing between calls, so any number of threads may call it at once. It counts on the processor's usual float
+ * settings: rounding to nearest, and numbers too small to be normal kept as they are. (A program linked with -ffast-math may
+ * start with other settings, and then the answers are not ours: docs/GUIDE.md has what changes.)
  *
  * A float goes in and comes out as its 32 bits, its "word": 4.0f is 0x40800000. dampmeadow_bits and dampmeadow_float, below,
  * go from one to the other. Words, and not floats, because a NaN's bits may change when it is handed on as a float.
@@ -34,45 +38,63 @@ extern "C" {
  * refuses the rest; it never answers with a NaN. "Above 0" and "not 0" leave out the numbers that are too small to be normal
  * too: those of a size under 2^-126. The example is a guarded call and its answer.
  *
- * sqrt and what comes after it are estimates, as they are in micromath: quick rather than close. sqrt may be some 6 percent
- * too large and inv 12.5; hypot of 3 and 4 is 5.125 here, and sqrt of 2 is 1.5. ln of a number below 1 is up to 0.118 off, and
- * powf with it: ln of 0.99 is -0.0198 here for -0.01005, and 0.75 to 2 is 0.444 for 0.5625. A power of powi that is too large
- * is an infinity, and of an x under 0.5 in size it gives up early, with 0 or an infinity: 0.4 to 75 is 0. The ln(x) that
- * powf's gate speaks of is this library's own, and the product is rounded.
+ * From sqrt to tan they are estimates, as they are in micromath: quick rather than close. sqrt may be some 6 percent too large
+ * and inv 12.5; hypot of 3 and 4 is 5.125 here, and sqrt of 2 is 1.5. ln of a number below 1 is up to 0.118 off, and powf with
+ * it: ln of 0.99 is -0.0198 here for -0.01005, and 0.75 to 2 is 0.444 for 0.5625. A power of powi that is too large is an
+ * infinity, and of an x under 0.5 in size it gives up early, with 0 or an infinity: 0.4 to 75 is 0. asin is up to 0.018 off and
+ * acos 0.029: asin of 0.1 is 0.0940 here for 0.1002, and acos of 0.75 is 0.743 for 0.723. tan is within 0.0013 while it is 1
+ * at most in size, and further off the steeper it gets: of 1.5 it is 14.24 for 14.10 and of 1.57 1273 for 1256, and at the
+ * steepest angles even its sign may be wrong. Of an angle under 0.00000005 in size it is 0, without the sign.
+ *
+ * rem_euclid and div_euclid are no estimates. Of an x that is not below 0 rem_euclid is exact. Of one below 0 it is rounded
+ * once, and may be |y| itself: -1e-45 by 1 leaves 1. -0 leaves -0, and so does an x below 0 that y divides. div_euclid counts
+ * by the rounded quotient, and where that was rounded up to a whole number it is one too far from 0 for what rem_euclid leaves:
+ * 1 by 0.1 is 10 and leaves 0.0999999866, since the float 0.1 is a little more than a tenth. On whole numbers of a size to 2^24
+ * the two always agree.
+ *
+ * The ln(x) of powf's gate and the cos(x) of tan's are this library's own, and powf's product is rounded. That cos(x) is 0 at
+ * 729 words, the float nearest to pi/2, 0x3fc90fdb, among them. x over 0 is no number under 2^23: a y of 0 is refused with 4.
  */
 enum dampmeadow_operation {
-    DAMPMEADOW_TRUNC = 0x01,    /* the whole part, toward 0           |x| under 2^32              -2.5 -> -2            */
-    DAMPMEADOW_FRACT = 0x02,    /* what trunc leaves, with x's sign   |x| under 2^32              -2.5 -> -0.5          */
-    DAMPMEADOW_FLOOR = 0x03,    /* the largest whole not above x      |x| to 2^31                 -0.5 -> -1            */
-    DAMPMEADOW_CEIL = 0x04,     /* the smallest whole not below x     |x| to 2^31                 2.5 -> 3              */
-    DAMPMEADOW_ROUND = 0x05,    /* the nearest, halves away from 0    |x| under 2^23, not the     2.5 -> 3              */
-                                /*                                    magnitude 0x3effffff                              */
-    DAMPMEADOW_ABS = 0x06,      /* x without its sign                 every finite x              -2.5 -> 2.5           */
-    DAMPMEADOW_COPYSIGN = 0x07, /* x with the sign of the second      every finite x and second   2.5, -1 -> -2.5       */
-    DAMPMEADOW_SIGNUM = 0x08,   /* 1 or -1 by x's sign bit, 0 too     every finite x              -2.5 -> -1            */
-    DAMPMEADOW_SQRT = 0x09,     /* square root, of a zero that zero   0, -0, or x above 0         4 -> 2                */
-    DAMPMEADOW_INVSQRT = 0x0a,  /* 1 over the square root             x above 0                   1 -> 0.966225028      */
-    DAMPMEADOW_INV = 0x0b,      /* 1/x, the quickest                  x above 0, to 2^126         1.5 -> 0.75           */
-    DAMPMEADOW_RECIP = 0x0c,    /* 1/x, closer                        x not 0, |x| to 2^125       4 -> 0.250000119      */
-    DAMPMEADOW_EXP = 0x0d,      /* e to the x                         x from -87 to 88            0.5 -> 1.6484375      */
-    DAMPMEADOW_LN = 0x0e,       /* natural logarithm                  x above 0                   0.75 -> -0.405448198  */
-    DAMPMEADOW_POWI = 0x0f,     /* x to a whole power                 x not 0, power from         3, power 3 -> 27      */
-                                /*                                    -1048576 to 1048576                               */
-    DAMPMEADOW_POWF = 0x10,     /* x to the power n, a float          x above 0, n*ln(x) from     0.75, 2 -> 0.44445956 */
-                                /*                                    -87 to 88                                         */
-    DAMPMEADOW_ATAN = 0x11,     /* arctangent, in radians             |x| under 2^64              0.5 -> 0.466342807    */
-    DAMPMEADOW_ATAN2 = 0x12,    /* the angle of (x, y): y is first    the larger size from 2^-60  1, 2 -> 0.466342807   */
-                                /*                                    to 2^60                                           */
-    DAMPMEADOW_COS = 0x13,      /* cosine of radians                  |x| to 1024                 1 -> 0.540483773      */
-    DAMPMEADOW_SIN = 0x14,      /* sine of radians                    |x| to 1024                 1 -> 0.842167795      */
-    DAMPMEADOW_HYPOT = 0x15     /* length of (x, y)                   the larger size from 2^-60  3, 4 -> 5.125         */
-                                /*                                    to 2^60                                           */
+    DAMPMEADOW_TRUNC = 0x01,      /* the whole part, toward 0           |x| under 2^32              -2.5 -> -2            */
+    DAMPMEADOW_FRACT = 0x02,      /* what trunc leaves, with x's sign   |x| under 2^32              -2.5 -> -0.5          */
+    DAMPMEADOW_FLOOR = 0x03,      /* the largest whole not above x      |x| to 2^31                 -0.5 -> -1            */
+    DAMPMEADOW_CEIL = 0x04,       /* the smallest whole not below x     |x| to 2^31                 2.5 -> 3              */
+    DAMPMEADOW_ROUND = 0x05,      /* the nearest, halves away from 0    |x| under 2^23, not the     2.5 -> 3              */
+                                  /*                                    magnitude 0x3effffff                              */
+    DAMPMEADOW_ABS = 0x06,        /* x without its sign                 every finite x              -2.5 -> 2.5           */
+    DAMPMEADOW_COPYSIGN = 0x07,   /* x with the sign of the second      every finite x and second   2.5, -1 -> -2.5       */
+    DAMPMEADOW_SIGNUM = 0x08,     /* 1 or -1 by x's sign bit, 0 too     every finite x              -2.5 -> -1            */
+    DAMPMEADOW_SQRT = 0x09,       /* square root, of a zero that zero   0, -0, or x above 0         4 -> 2                */
+    DAMPMEADOW_INVSQRT = 0x0a,    /* 1 over the square root             x above 0                   1 -> 0.966225028      */
+    DAMPMEADOW_INV = 0x0b,        /* 1/x, the quickest                  x above 0, to 2^126         1.5 -> 0.75           */
+    DAMPMEADOW_RECIP = 0x0c,      /* 1/x, closer                        x not 0, |x| to 2^125       4 -> 0.250000119      */
+    DAMPMEADOW_EXP = 0x0d,        /* e to the x                         x from -87 to 88            0.5 -> 1.6484375      */
+    DAMPMEADOW_LN = 0x0e,         /* natural logarithm                  x above 0                   0.75 -> -0.405448198  */
+    DAMPMEADOW_POWI = 0x0f,       /* x to a whole power                 x not 0, power from         3, power 3 -> 27      */
+                                  /*                                    -1048576 to 1048576                               */
+    DAMPMEADOW_POWF = 0x10,       /* x to the power n, a float          x above 0, n*ln(x) from     0.75, 2 -> 0.44445956 */
+                                  /*                                    -87 to 88                                         */
+    DAMPMEADOW_ATAN = 0x11,       /* arctangent, in radians             |x| under 2^64              0.5 -> 0.466342807    */
+    DAMPMEADOW_ATAN2 = 0x12,      /* the angle of (x, y): y is first    the larger size from 2^-60  1, 2 -> 0.466342807   */
+                                  /*                                    to 2^60                                           */
+    DAMPMEADOW_COS = 0x13,        /* cosine of radians                  |x| to 1024                 1 -> 0.540483773      */
+    DAMPMEADOW_SIN = 0x14,        /* sine of radians                    |x| to 1024                 1 -> 0.842167795      */
+    DAMPMEADOW_HYPOT = 0x15,      /* length of (x, y)                   the larger size from 2^-60  3, 4 -> 5.125         */
+                                  /*                                    to 2^60                                           */
+    DAMPMEADOW_ASIN = 0x16,       /* arcsine, in radians                |x| under 1                 0.5 -> 0.536748469    */
+    DAMPMEADOW_ACOS = 0x17,       /* arccosine, in radians              0, -0, or |x| from 2^-60    0.5 -> 1.04882419     */
+                                  /*                                    and under 1                                       */
+    DAMPMEADOW_TAN = 0x18,        /* tangent of radians                 |x| to 1024, cos(x) not 0   1 -> 1.55817401       */
+    DAMPMEADOW_REM_EUCLID = 0x19, /* what whole y leave of x, 0 to |y|  x/y under 2^23 in size      -7, 3 -> 2            */
+    DAMPMEADOW_DIV_EUCLID = 0x1a  /* how many whole y those are         x/y under 2^23 in size      -7, 3 -> -3           */
 };
 
 /* Added to an operation, it asks for the raw form: DAMPMEADOW_RAW + DAMPMEADOW_SQRT. A raw form answers every word with the
- * bits that micromath gives, a NaN and an infinity among them: raw sqrt of 0 is 0x1fc00000, and of -0 0x5fc00000. Four cases
+ * bits that micromath gives, a NaN and an infinity among them: raw sqrt of 0 is 0x1fc00000, and of -0 0x5fc00000. Five cases
  * are settled here: a NaN is 0x7fc00000, but from abs, copysign, inv and invsqrt, whether micromath's arithmetic made it or its
- * exp put it together from bits; exp of a NaN; and powi to -2^31, where micromath may not end. docs/DIFFERENCES.md has them.
+ * exp put it together from bits; exp of a NaN; powi to -2^31, where micromath may not end; and div_euclid where the quotient is
+ * a NaN, which gives 0x7f800000. docs/DIFFERENCES.md has them.
  */
 #define DAMPMEADOW_RAW 0x80u
 

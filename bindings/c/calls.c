@@ -93,6 +93,24 @@ int main(void)
     gives("cos 1", DAMPMEADOW_COS, 1.0f, 0, 0.540483773f);
     gives("sin 1", DAMPMEADOW_SIN, 1.0f, 0, 0.842167795f);
     gives("hypot 3 4", DAMPMEADOW_HYPOT, 3.0f, dampmeadow_bits(4.0f), 5.125f);
+    gives("asin 0.5", DAMPMEADOW_ASIN, 0.5f, 0, 0.536748469f);
+    gives("asin -0", DAMPMEADOW_ASIN, -0.0f, 0, -0.0f);
+    gives("asin 0.1", DAMPMEADOW_ASIN, 0.1f, 0, 0.0940035135f);
+    gives("acos 0.5", DAMPMEADOW_ACOS, 0.5f, 0, 1.04882419f);
+    gives("acos -0.5", DAMPMEADOW_ACOS, -0.5f, 0, 2.09276867f);
+    gives("acos 0.75", DAMPMEADOW_ACOS, 0.75f, 0, 0.742633045f);
+    gives("acos -0", DAMPMEADOW_ACOS, -0.0f, 0, 1.57079637f);
+    gives("tan 1", DAMPMEADOW_TAN, 1.0f, 0, 1.55817401f);
+    gives("tan 1.5", DAMPMEADOW_TAN, 1.5f, 0, 14.2437534f);
+    gives("tan 1.57", DAMPMEADOW_TAN, 1.57f, 0, 1272.61206f);
+    gives("tan -0.00000005", DAMPMEADOW_TAN, -0.00000005f, 0, 0.0f);
+    gives("rem_euclid -7 3", DAMPMEADOW_REM_EUCLID, -7.0f, dampmeadow_bits(3.0f), 2.0f);
+    gives("rem_euclid -3 3", DAMPMEADOW_REM_EUCLID, -3.0f, dampmeadow_bits(3.0f), -0.0f);
+    gives("rem_euclid -1e-45 1", DAMPMEADOW_REM_EUCLID, -1e-45f, dampmeadow_bits(1.0f), 1.0f);
+    gives("rem_euclid 1 0.1", DAMPMEADOW_REM_EUCLID, 1.0f, dampmeadow_bits(0.1f), 0.0999999866f);
+    gives("div_euclid -7 3", DAMPMEADOW_DIV_EUCLID, -7.0f, dampmeadow_bits(3.0f), -3.0f);
+    gives("div_euclid -7 -3", DAMPMEADOW_DIV_EUCLID, -7.0f, dampmeadow_bits(-3.0f), 3.0f);
+    gives("div_euclid 1 0.1", DAMPMEADOW_DIV_EUCLID, 1.0f, dampmeadow_bits(0.1f), 10.0f);
 
     refuses("exp of a NaN", DAMPMEADOW_EXP, nan, 0, DAMPMEADOW_NOT_FINITE);
     refuses("ln 0", DAMPMEADOW_LN, 0, 0, DAMPMEADOW_ZERO);
@@ -104,14 +122,31 @@ int main(void)
     refuses("sqrt -1", DAMPMEADOW_SQRT, 0xbf800000, 0, DAMPMEADOW_NEGATIVE);
     refuses("atan2 0 0", DAMPMEADOW_ATAN2, 0, 0, DAMPMEADOW_OUTSIDE);
     refuses("hypot 0 0", DAMPMEADOW_HYPOT, 0, 0, DAMPMEADOW_OUTSIDE);
+    refuses("asin 1", DAMPMEADOW_ASIN, 0x3f800000, 0, DAMPMEADOW_OUTSIDE);
+    refuses("acos -1", DAMPMEADOW_ACOS, 0xbf800000, 0, DAMPMEADOW_OUTSIDE);
+    refuses("acos, the last below 2^-60", DAMPMEADOW_ACOS, 0x217fffff, 0, DAMPMEADOW_OUTSIDE);
+    refuses("tan pi/2", DAMPMEADOW_TAN, 0x3fc90fdb, 0, DAMPMEADOW_OUTSIDE);
+    refuses("tan, the first above 1024", DAMPMEADOW_TAN, 0x44800001, 0, DAMPMEADOW_OUTSIDE);
+    refuses("rem_euclid 1 0", DAMPMEADOW_REM_EUCLID, 0x3f800000, 0, DAMPMEADOW_OUTSIDE);
+    refuses("rem_euclid 0 0", DAMPMEADOW_REM_EUCLID, 0, 0, DAMPMEADOW_OUTSIDE);
+    refuses("rem_euclid 1 and a NaN", DAMPMEADOW_REM_EUCLID, 0x3f800000, nan, DAMPMEADOW_NOT_FINITE);
+    refuses("div_euclid 2^23 1", DAMPMEADOW_DIV_EUCLID, 0x4b000000, 0x3f800000, DAMPMEADOW_OUTSIDE);
+    refuses("div_euclid of infinity by 0", DAMPMEADOW_DIV_EUCLID, 0x7f800000, 0, DAMPMEADOW_NOT_FINITE);
     refuses("powi 3 1048577", DAMPMEADOW_POWI, 0x40400000, 1048577, DAMPMEADOW_POWER_OUTSIDE);
-    refuses("operation 16", 0x16, 0, 0, DAMPMEADOW_NO_SUCH_OPERATION);
+    refuses("operation 1f", 0x1f, 0, 0, DAMPMEADOW_NO_SUCH_OPERATION);
+    refuses("operation 1b", DAMPMEADOW_DIV_EUCLID + 1, 0, 0, DAMPMEADOW_NO_SUCH_OPERATION);
     refuses("sqrt with a second word", DAMPMEADOW_SQRT, 0x40800000, 1, DAMPMEADOW_MALFORMED);
+    refuses("tan with a second word", DAMPMEADOW_TAN, 0x3f800000, 1, DAMPMEADOW_MALFORMED);
 
     hold("raw sqrt 0", dampmeadow_words(DAMPMEADOW_RAW + DAMPMEADOW_SQRT, 0, 0), 0x1fc00000);
     hold("raw sqrt -0", dampmeadow_words(DAMPMEADOW_RAW + DAMPMEADOW_SQRT, 0x80000000, 0), 0x5fc00000);
     hold("raw atan2 0 0", dampmeadow_words(DAMPMEADOW_RAW + DAMPMEADOW_ATAN2, 0, 0), nan);
     hold("raw abs keeps a NaN's bits", dampmeadow_words(DAMPMEADOW_RAW + DAMPMEADOW_ABS, 0xff800001, 0), 0x7f800001);
+    hold("raw asin 1", dampmeadow_words(DAMPMEADOW_RAW + DAMPMEADOW_ASIN, 0x3f800000, 0), 0x3fc90fdb);
+    hold("raw acos, the smallest", dampmeadow_words(DAMPMEADOW_RAW + DAMPMEADOW_ACOS, 0x00000001, 0), nan);
+    hold("raw tan pi/2", dampmeadow_words(DAMPMEADOW_RAW + DAMPMEADOW_TAN, 0x3fc90fdb, 0), 0x7f800000);
+    hold("raw rem_euclid 0 0", dampmeadow_words(DAMPMEADOW_RAW + DAMPMEADOW_REM_EUCLID, 0, 0), nan);
+    hold("raw div_euclid 0 0", dampmeadow_words(DAMPMEADOW_RAW + DAMPMEADOW_DIV_EUCLID, 0, 0), 0x7f800000);
 
     hold("atan_norm 1, guarded", dampmeadow_atan_norm_guarded(0x3f800000), 0x3f000000);
     hold("atan_norm of a NaN, guarded", dampmeadow_atan_norm_guarded(nan), (uint64_t)DAMPMEADOW_NOT_FINITE << 32);
@@ -128,26 +163,30 @@ int main(void)
     const uint32_t powers[3] = {(uint32_t)-1, (uint32_t)-1048577, 1};
     const uint64_t roots[3] = {0x40000000, 0x300000000, 0}, fewer[3] = {0x40000000, 0x300000000, UNTOUCHED};
     const uint64_t raised[3] = {0x3e800000, 0x500000000, 0x200000000}, bare[3] = {0x40000000, nan, 0x1fc00000};
+    const uint32_t threes[3] = {0x40400000, 0x40400000, 0};
+    const uint64_t left[3] = {0x3f800000, 0x40000000, 0x400000000};
     strip("a strip of sqrt", DAMPMEADOW_SQRT, NULL, all, DAMPMEADOW_ANSWERED, roots);
     strip("a strip of sqrt, beside a second list", DAMPMEADOW_SQRT, powers, all, DAMPMEADOW_ANSWERED, roots);
     strip("two places of a strip", DAMPMEADOW_SQRT, NULL, two, DAMPMEADOW_ANSWERED, fewer);
     strip("a strip of powi", DAMPMEADOW_POWI, powers, all, DAMPMEADOW_ANSWERED, raised);
     strip("a strip of raw sqrt", DAMPMEADOW_RAW + DAMPMEADOW_SQRT, powers, all, DAMPMEADOW_ANSWERED, bare);
+    strip("a strip of rem_euclid", DAMPMEADOW_REM_EUCLID, threes, all, DAMPMEADOW_ANSWERED, left);
     strip("a strip of no places", DAMPMEADOW_SQRT, NULL, none, DAMPMEADOW_ANSWERED, NULL);
-    strip("a strip of operation 16", 0x16, NULL, all, DAMPMEADOW_NO_SUCH_OPERATION, NULL);
+    strip("a strip of operation 1f", 0x1f, NULL, all, DAMPMEADOW_NO_SUCH_OPERATION, NULL);
     strip("a strip of operation 109", 0x109, NULL, all, DAMPMEADOW_NO_SUCH_OPERATION, NULL);
-    strip("a strip of operation 16 and no places", 0x16, NULL, none, DAMPMEADOW_NO_SUCH_OPERATION, NULL);
+    strip("a strip of operation 1f and no places", 0x1f, NULL, none, DAMPMEADOW_NO_SUCH_OPERATION, NULL);
     for (int list = 0; list < 4; list++) for (size_t places = 1; places <= 3; places += 2) {
         size_t lent[4] = {2, 2, 2, 2};
         lent[list] = places;
         strip("a strip with one list of another length", DAMPMEADOW_SQRT, NULL, lent, DAMPMEADOW_LENGTHS, NULL);
-        strip("the same of operation 16", 0x16, NULL, lent, DAMPMEADOW_LENGTHS, NULL);
+        strip("the same of operation 1f", 0x1f, NULL, lent, DAMPMEADOW_LENGTHS, NULL);
     }
 
     line("094080000000000000", 16, DAMPMEADOW_ANSWERED, "0040000000\n");
     line("898000000000000000", 11, DAMPMEADOW_ANSWERED, "005fc00000\n");
     line("09bf80000000000000", 11, DAMPMEADOW_NEGATIVE, "0300000000\n");
-    line("160000000000000000", 16, DAMPMEADOW_NO_SUCH_OPERATION, "0600000000\n");
+    line("19c0e0000040400000", 16, DAMPMEADOW_ANSWERED, "0040000000\n");
+    line("1f0000000000000000", 16, DAMPMEADOW_NO_SUCH_OPERATION, "0600000000\n");
     line("", 11, DAMPMEADOW_MALFORMED, "0700000000\n");
     line("094080000000000000", 10, DAMPMEADOW_NO_ROOM, "");
 

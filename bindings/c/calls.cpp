@@ -79,6 +79,12 @@ int main()
     hold("hypot 3 4", call(DAMPMEADOW_HYPOT, 3.0f, 4.0f), {DAMPMEADOW_ANSWERED, 5.125f});
     hold("hypot 0 0", call(DAMPMEADOW_HYPOT, 0.0f, 0.0f), {DAMPMEADOW_OUTSIDE, 0.0f});
     hold("atan2 1 0", call(DAMPMEADOW_ATAN2, 1.0f, 0.0f), {DAMPMEADOW_ANSWERED, 1.57079637f});
+    hold("asin 1", call(DAMPMEADOW_ASIN, 1.0f), {DAMPMEADOW_OUTSIDE, 0.0f});
+    hold("acos 0", call(DAMPMEADOW_ACOS, 0.0f), {DAMPMEADOW_ANSWERED, 1.57079637f});
+    hold("tan 1", call(DAMPMEADOW_TAN, 1.0f), {DAMPMEADOW_ANSWERED, 1.55817401f});
+    hold("rem_euclid -7 3", call(DAMPMEADOW_REM_EUCLID, -7.0f, 3.0f), {DAMPMEADOW_ANSWERED, 2.0f});
+    hold("div_euclid -7 3", call(DAMPMEADOW_DIV_EUCLID, -7.0f, 3.0f), {DAMPMEADOW_ANSWERED, -3.0f});
+    hold("div_euclid -7 0", call(DAMPMEADOW_DIV_EUCLID, -7.0f, 0.0f), {DAMPMEADOW_OUTSIDE, 0.0f});
     hold("powi 2 -1", answer(dampmeadow_words(DAMPMEADOW_POWI, dampmeadow_bits(2.0f), uint32_t(-1))), {DAMPMEADOW_ANSWERED, 0.5f});
     hold("raw inv -1", call(DAMPMEADOW_RAW + DAMPMEADOW_INV, -1.0f), {DAMPMEADOW_ANSWERED, -1.0f});
     hold("atan_norm 1, guarded", answer(dampmeadow_atan_norm_guarded(0x3f800000)), {DAMPMEADOW_ANSWERED, 0.5f});
@@ -89,10 +95,11 @@ int main()
     strip("a strip of sqrt", DAMPMEADOW_SQRT, film, film, DAMPMEADOW_ANSWERED, {{0, 2.0f}, {DAMPMEADOW_NEGATIVE, 0.0f}, {0, 0.0f}});
     strip("a strip of ln", DAMPMEADOW_LN, {0.0f, 1e-40f, -1e-40f}, film, DAMPMEADOW_ANSWERED, {{DAMPMEADOW_ZERO, 0.0f}, {DAMPMEADOW_SMALL, 0.0f}, {DAMPMEADOW_SMALL, 0.0f}});
     strip("a strip of hypot", DAMPMEADOW_HYPOT, {3.0f, 0.0f}, {4.0f, 0.0f}, DAMPMEADOW_ANSWERED, {{0, 5.125f}, {DAMPMEADOW_OUTSIDE, 0.0f}});
+    strip("a strip of div_euclid", DAMPMEADOW_DIV_EUCLID, {7.0f, -7.0f, 7.0f}, {3.0f, 3.0f, 0.0f}, DAMPMEADOW_ANSWERED, {{0, 2.0f}, {0, -3.0f}, {DAMPMEADOW_OUTSIDE, 0.0f}});
     strip("a strip of no places", DAMPMEADOW_HYPOT, {}, {}, DAMPMEADOW_ANSWERED, {});
     strip("a strip with a short second list", DAMPMEADOW_SQRT, {4.0f}, {}, DAMPMEADOW_LENGTHS, {{99, -9.0f}});
-    strip("a strip of operation 16", 0x16, {4.0f}, {4.0f}, DAMPMEADOW_NO_SUCH_OPERATION, {{99, -9.0f}});
-    strip("a strip of operation 16 and no places", 0x16, {}, {}, DAMPMEADOW_NO_SUCH_OPERATION, {});
+    strip("a strip of operation 1f", 0x1f, {4.0f}, {4.0f}, DAMPMEADOW_NO_SUCH_OPERATION, {{99, -9.0f}});
+    strip("a strip of operation 1f and no places", 0x1f, {}, {}, DAMPMEADOW_NO_SUCH_OPERATION, {});
     line("094080000000000000", "0040000000");
     line("a frame is eighteen digits", "0700000000");
 

@@ -243,3 +243,71 @@ pub fn sin(x: f32) -> Result<f32, Refusal> {
 pub fn hypot(x: f32, y: f32) -> Result<f32, Refusal> {
     guarded(Operation::Hypot, x.to_bits(), y.to_bits())
 }
+
+/// The arcsine, in radians, 0.018 off at most. Takes |x| under 1.
+///
+/// ```
+/// use dampmeadow::{asin, Refusal};
+/// assert_eq!(asin(0.5), Ok(0.536748469)); // 0.52360 is true
+/// assert_eq!(asin(1.0), Err(Refusal::Outside));
+/// ```
+pub fn asin(x: f32) -> Result<f32, Refusal> {
+    guarded(Operation::Asin, x.to_bits(), 0)
+}
+
+/// The arccosine, in radians, 0.029 off at most. Takes 0, -0, and |x| from 2^-60 and under 1.
+///
+/// ```
+/// use dampmeadow::{acos, Refusal};
+/// assert_eq!(acos(0.5), Ok(1.04882419)); // 1.04720 is true
+/// assert_eq!(acos(0.0), Ok(1.57079637));
+/// assert_eq!(acos(1.0e-20), Err(Refusal::Outside));
+/// ```
+pub fn acos(x: f32) -> Result<f32, Refusal> {
+    guarded(Operation::Acos, x.to_bits(), 0)
+}
+
+/// The tangent of x radians. Takes |x| to 1024, but not where this library's [`cos`] of x is 0, as it is of the float nearest
+/// to pi/2. It is within 0.0013 while it is 1 at most in size, and further off the steeper it gets; at the steepest angles even
+/// its sign may be wrong. Of an angle under 0.00000005 in size it is 0, without the sign.
+///
+/// ```
+/// use core::f32::consts::FRAC_PI_2;
+/// use dampmeadow::{tan, Refusal};
+/// assert_eq!(tan(1.0), Ok(1.55817401)); // 1.55741 is true
+/// assert_eq!(tan(1.5), Ok(14.2437534)); // 14.10142 is true
+/// assert_eq!(tan(-1.0e-8).map(f32::to_bits), Ok(0));
+/// assert_eq!(tan(FRAC_PI_2), Err(Refusal::Outside));
+/// ```
+pub fn tan(x: f32) -> Result<f32, Refusal> {
+    guarded(Operation::Tan, x.to_bits(), 0)
+}
+
+/// What whole steps of y leave of x, from 0 to |y|. Takes a quotient x/y under 2^23 in size, and so no y that is 0. It is exact
+/// where x is not below 0. Else it is rounded once, and may be |y| itself. Of -0, and of an x below 0 that y divides, it is -0.
+///
+/// ```
+/// use dampmeadow::{rem_euclid, Refusal};
+/// assert_eq!(rem_euclid(-7.0, 3.0), Ok(2.0));
+/// assert_eq!(rem_euclid(-1.0e-45, 1.0), Ok(1.0));
+/// assert_eq!(rem_euclid(7.0, 0.0), Err(Refusal::Outside));
+/// ```
+pub fn rem_euclid(x: f32, y: f32) -> Result<f32, Refusal> {
+    guarded(Operation::RemEuclid, x.to_bits(), y.to_bits())
+}
+
+/// How many whole steps of y go with [`rem_euclid`]. Takes what that takes. It counts by the rounded quotient, and where that
+/// was rounded up to a whole number it is one too far from 0 for what rem_euclid leaves. On whole numbers of a size to 2^24 the
+/// two always agree.
+///
+/// ```
+/// use dampmeadow::{div_euclid, rem_euclid, Refusal};
+/// assert_eq!(div_euclid(-7.0, 3.0), Ok(-3.0));
+/// // the float 0.1 is a little more than a tenth: nine of them and what is left are 1
+/// assert_eq!(rem_euclid(1.0, 0.1), Ok(0.0999999866));
+/// assert_eq!(div_euclid(1.0, 0.1), Ok(10.0));
+/// assert_eq!(div_euclid(8388608.0, 1.0), Err(Refusal::Outside));
+/// ```
+pub fn div_euclid(x: f32, y: f32) -> Result<f32, Refusal> {
+    guarded(Operation::DivEuclid, x.to_bits(), y.to_bits())
+}

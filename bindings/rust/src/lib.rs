@@ -19,13 +19,14 @@
 //! leave out the numbers that are not 0 and too small to be normal, those of a size under 2^-126: they are refused with
 //! [`Refusal::Small`], and a zero, where it is not taken, with [`Refusal::Zero`].
 //!
-//! The kernels are those of micromath, to the bit, but that [`sqrt`] of a zero is that zero: quick estimates, some of them
-//! percents off. [`raw`] gives what micromath gives for every word, NaN and infinity among them, but for four cases that
+//! The kernels are those of micromath, to the bit, but that [`sqrt`] of a zero is that zero: most are quick estimates, some of
+//! them percents off. [`raw`] gives what micromath gives for every word, NaN and infinity among them, but for five cases that
 //! docs/DIFFERENCES.md lists. [`call`] takes any operation by its number, [`strip`] the same over whole lists, and [`answer`]
 //! a frame, which is a line of text. Nothing is kept between calls, so they may be made from any thread.
 //!
 //! The build script finds the library, or proves and builds it, which takes a minute or two the first time; where it cannot, it
-//! says what is missing.
+//! says what is missing. The library asks for one function from outside, `fmodf`: it is Rust's own where Rust brings one, and
+//! else that of the C library's mathematics, libm, which is linked too.
 
 #![no_std]
 #![deny(unsafe_op_in_unsafe_fn)]
@@ -82,7 +83,7 @@ fn unpacked(packed: u64) -> Result<u32, Refusal> {
 /// use dampmeadow::{call, Refusal};
 /// assert_eq!(call(0x09, 0x40800000, 0), Ok(0x40000000));
 /// assert_eq!(call(0x89, 0x80000000, 0), Ok(0x5fc00000));
-/// assert_eq!(call(0x16, 0, 0), Err(Refusal::NoSuchOperation));
+/// assert_eq!(call(0x1f, 0, 0), Err(Refusal::NoSuchOperation));
 /// ```
 pub fn call(op: u32, a: u32, b: u32) -> Result<u32, Refusal> {
     // SAFETY: numbers alone go in and come out, and every one is answered.

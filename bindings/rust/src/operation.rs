@@ -51,11 +51,21 @@ pub enum Operation {
     Sin = 0x14,
     /// The length of a pair: [`hypot`](crate::hypot).
     Hypot = 0x15,
+    /// The arcsine: [`asin`](crate::asin).
+    Asin = 0x16,
+    /// The arccosine: [`acos`](crate::acos).
+    Acos = 0x17,
+    /// The tangent: [`tan`](crate::tan).
+    Tan = 0x18,
+    /// What whole steps of the second number leave of the first: [`rem_euclid`](crate::rem_euclid).
+    RemEuclid = 0x19,
+    /// How many whole steps those are: [`div_euclid`](crate::div_euclid).
+    DivEuclid = 0x1a,
 }
 
 impl Operation {
     /// Every operation, in the order of their numbers.
-    pub const ALL: [Operation; 21] = [
+    pub const ALL: [Operation; 26] = [
         Operation::Trunc,
         Operation::Fract,
         Operation::Floor,
@@ -77,6 +87,11 @@ impl Operation {
         Operation::Cos,
         Operation::Sin,
         Operation::Hypot,
+        Operation::Asin,
+        Operation::Acos,
+        Operation::Tan,
+        Operation::RemEuclid,
+        Operation::DivEuclid,
     ];
 
     /// The number of its guarded form.
@@ -91,6 +106,7 @@ impl Operation {
 
     /// Whether it uses its second word. Where it does not, that word has to be 0.
     pub const fn takes_two(self) -> bool {
-        matches!(self, Operation::Copysign | Operation::Powi | Operation::Powf | Operation::Atan2 | Operation::Hypot)
+        use Operation::{Atan2, Copysign, DivEuclid, Hypot, Powf, Powi, RemEuclid};
+        matches!(self, Copysign | Powi | Powf | Atan2 | Hypot | RemEuclid | DivEuclid)
     }
 }

@@ -26,7 +26,7 @@ use core::slice;
 /// assert_eq!((place(0), place(1)), (Ok(5.125), Err(Refusal::Outside)));
 ///
 /// assert_eq!(strip(hypot, bits(&across), bits(&down[1..]), bits_mut(&mut strengths), &mut refusals), Err(Refusal::Lengths));
-/// assert_eq!(strip(0x16, &[], &[], &mut [], &mut []), Err(Refusal::NoSuchOperation));
+/// assert_eq!(strip(0x1f, &[], &[], &mut [], &mut []), Err(Refusal::NoSuchOperation));
 /// ```
 pub fn strip(op: u32, first: &[u32], second: &[u32], answers: &mut [u32], refusals: &mut [u32]) -> Result<(), Refusal> {
     // SAFETY: each pointer comes from a slice with its own length, an empty one's too is not null, and the two that are written

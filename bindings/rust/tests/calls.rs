@@ -42,7 +42,7 @@ fn the_operations_have_their_numbers_and_no_others_exist() {
         assert_eq!(op.number(), place);
     }
     for op in (0..0x200).chain([0x100, 0x109, 0x8000_0009, u32::MAX]) {
-        let exists = (0x01..=0x15).contains(&op) || (0x81..=0x95).contains(&op);
+        let exists = (0x01..=0x1a).contains(&op) || (0x81..=0x9a).contains(&op);
         assert_eq!(call(op, 0x3f80_0000, 0) != Err(Refusal::NoSuchOperation), exists, "{op:02x}");
     }
 }
@@ -75,6 +75,20 @@ fn both_sides_of_the_gates() {
         (Operation::Sin, 0xc480_0000, 0xc480_0001),
         (Operation::Hypot, 0x2180_0000, 0x217f_ffff),
         (Operation::Atan2, 0x5d80_0000, 0x5d80_0001),
+        (Operation::Asin, 0x3f7f_ffff, 0x3f80_0000),
+        (Operation::Asin, 0xbf7f_ffff, 0xbf80_0000),
+        (Operation::Acos, 0x3f7f_ffff, 0x3f80_0000),
+        (Operation::Acos, 0xbf7f_ffff, 0xbf80_0000),
+        (Operation::Acos, 0x2180_0000, 0x217f_ffff),
+        (Operation::Acos, 0xa180_0000, 0xa17f_ffff),
+        (Operation::Acos, 0x0000_0000, 0x0000_0001),
+        (Operation::Acos, 0x8000_0000, 0x8000_0001),
+        (Operation::Tan, 0x4480_0000, 0x4480_0001),
+        (Operation::Tan, 0xc480_0000, 0xc480_0001),
+        (Operation::Tan, 0x3fc9_0fda, 0x3fc9_0fdb),
+        (Operation::Tan, 0x3fc9_0fdc, 0x3fc9_0fdb),
+        (Operation::Tan, 0xbfc9_0fd9, 0xbfc9_0fda),
+        (Operation::Tan, 0xbfc9_0fdc, 0xbfc9_0fdb),
     ];
     for (op, takes, refuses) in edges {
         assert!(guarded(op, takes, 0).is_ok(), "{op:?} {takes:08x}");
@@ -83,6 +97,89 @@ fn both_sides_of_the_gates() {
     assert_eq!(atan_norm(f32::from_bits(0x5f80_0000)), Err(Refusal::Outside));
     assert!(powi(3.0, 1_048_576).is_ok() && powi(3.0, -1_048_576).is_ok());
     assert_eq!(powi(3.0, -1_048_577), Err(Refusal::PowerOutside));
+}
+
+#[test]
+fn the_euclids_take_a_quotient_under_two_to_23() {
+    let (last, past, one) = (0x4aff_ffff, 0x4b00_0000, 0x3f80_0000);
+    for op in [Operation::RemEuclid, Operation::DivEuclid] {
+        for (sign, other) in [(0, 0), (1 << 31, 0), (0, 1 << 31), (1 << 31, 1 << 31)] {
+            let asked = |a: u32, b: u32| guarded(op, a | sign, b | other);
+            for (a, b) in [(last, one), (0x007f_ffff, 1), (0, 1), (1, 0x7f7f_ffff)] {
+                assert!(asked(a, b).is_ok(), "{op:?} {a:08x} {b:08x} {sign:x} {other:x}");
+            }
+            // past the end, a quotient that is infinite, and divisors that are 0
+            for (a, b) in [(past, one), (0x0080_0000, 1), (one, 1), (0x7f7f_ffff, 1), (one, 0), (1, 0), (0, 0)] {
+                assert_eq!(asked(a, b), Err(Refusal::Outside), "{op:?} {a:08x} {b:08x} {sign:x} {other:x}");
+            }
+            // before that, either operand
+            for (a, b) in [(0x7f80_0000, one), (one, 0x7f80_0000), (0x7fc0_0000, 0), (0, 0x7fc0_0000), (0x7f80_0000, 0)] {
+                assert_eq!(asked(a, b), Err(Refusal::NotFinite), "{op:?} {a:08x} {b:08x} {sign:x} {other:x}");
+            }
+        }
+    }
+}
+
+#[test]
+fn what_is_left_and_the_whole_steps_make_the_number() {
+    for x in (-60..=60).chain([-16_777_216, -16_777_215, 16_777_215, 16_777_216]) {
+        for y in (-20..=20i32).filter(|&y| y != 0 && (x / y).abs() < 1 << 23) {
+            let (rest, steps) = (i32::rem_euclid(x, y), i32::div_euclid(x, y));
+            assert_eq!(rem_euclid(x as f32, y as f32), Ok(rest as f32), "{x} {y}");
+            assert_eq!(div_euclid(x as f32, y as f32), Ok(steps as f32), "{x} {y}");
+        }
+    }
+    // the quotient is rounded up to a whole number, and so one divisor too many is counted
+    for (x, y, rest, steps) in [
+        (1.0, 0.1, 0x3dcc_cccb, 10.0),
+        (-1.0, 0.1, 0x3280_0000, -11.0),
+        (1.0, -0.1, 0x3dcc_cccb, -10.0),
+        (-1.0, -0.1, 0x3280_0000, 11.0),
+        (20_971_524.0, 5.0, 0x4080_0000, 4_194_305.0),
+    ] {
+        assert_eq!(rem_euclid(x, y).map(f32::to_bits), Ok(rest), "{x} {y}");
+        assert_eq!(div_euclid(x, y), Ok(steps), "{x} {y}");
+    }
+    // the divisor itself, and the zeros that keep a sign
+    assert_eq!(rem_euclid(-f32::from_bits(1), 1.0), Ok(1.0));
+    for (x, y, rest, steps) in [(-0.0, 1.0, 1 << 31, 1 << 31), (-0.0, -1.0, 1 << 31, 0), (-3.0, 3.0, 1 << 31, 0xbf80_0000)] {
+        assert_eq!(rem_euclid(x, y).map(f32::to_bits), Ok(rest), "{x} {y}");
+        assert_eq!(div_euclid(x, y).map(f32::to_bits), Ok(steps), "{x} {y}");
+    }
+}
+
+#[test]
+fn raw_angles_and_remainders_have_the_bits_of_the_crate() {
+    use Operation::{Acos, Asin, DivEuclid, RemEuclid, Tan};
+    let (one, minus, nan, infinite) = (0x3f80_0000, 0xbf80_0000, 0x7fc0_0000, 0x7f80_0000);
+    for (op, a, b, due) in [
+        (Asin, one, 0, 0x3fc9_0fdb),
+        (Asin, minus, 0, 0xbfc9_0fdb),
+        (Asin, 0x3f80_0001, 0, 0x04e7_a8cb),
+        (Asin, 0x4000_0000, 0, nan),
+        (Asin, 0xffc0_0001, 0, nan),
+        (Acos, one, 0, 0x1fb3_d15e),
+        (Acos, minus, 0, 0x4049_0fdb),
+        (Acos, 0x217f_ffff, 0, 0x3fc9_0fdb),
+        (Acos, 0x1f80_0000, 0, nan),
+        (Acos, 0x0000_0001, 0, nan),
+        (Tan, 0x3fc9_0fdb, 0, infinite),
+        (Tan, 0xbfc9_0fda, 0, 0xff80_0000),
+        (Tan, infinite, 0, nan),
+        (RemEuclid, one, 0, nan),
+        (RemEuclid, minus, infinite, infinite),
+        (DivEuclid, one, 0, infinite),
+        (DivEuclid, minus, 0, 0xff80_0000),
+        (DivEuclid, minus, 1 << 31, infinite),
+        (DivEuclid, 0x4f80_0001, one, 0x4f80_0000),
+        // settled by this library: the quotient is a NaN
+        (DivEuclid, 0, 0, infinite),
+        (DivEuclid, infinite, infinite, infinite),
+        (DivEuclid, 0xffc0_0001, one, infinite),
+        (DivEuclid, minus, 0xffc0_0001, infinite),
+    ] {
+        assert_eq!(raw(op, a, b), Ok(due), "{op:?} {a:08x} {b:08x}");
+    }
 }
 
 #[test]
@@ -112,6 +209,22 @@ fn a_zero_is_not_a_small_number() {
     assert_eq!(powf(-f32::from_bits(1), f32::INFINITY), Err(Refusal::NotFinite));
     // elsewhere they are numbers like others
     assert_eq!(floor(-f32::from_bits(1)), Ok(-1.0));
+    assert_eq!(asin(f32::from_bits(1)), Ok(f32::from_bits(2)));
+    assert_eq!(div_euclid(-f32::from_bits(1), f32::from_bits(3)), Ok(-1.0));
+    for (zero, angle) in [(0.0, 0), (-0.0, 1 << 31)] {
+        assert_eq!(asin(zero).map(f32::to_bits), Ok(angle));
+        assert_eq!(acos(zero).map(f32::to_bits), Ok(0x3fc9_0fdb));
+        assert_eq!(tan(zero).map(f32::to_bits), Ok(0));
+    }
+}
+
+#[test]
+fn a_small_angle_has_no_tangent_but_zero() {
+    for angle in [0x3440_0000, 0xb37f_ffff, 0x8080_0000, 0x8000_0001] {
+        assert_eq!(tan(f32::from_bits(angle)).map(f32::to_bits), Ok(0), "{angle:08x}");
+    }
+    assert_eq!(tan(f32::from_bits(0x3440_0001)).map(f32::to_bits), Ok(0x34c6_6667));
+    assert_eq!(tan(f32::from_bits(0xb380_0000)).map(f32::to_bits), Ok(0xb446_6667));
 }
 
 #[test]
@@ -143,7 +256,7 @@ fn a_line_that_is_no_frame_is_malformed() {
 #[test]
 fn a_frame_and_a_call_agree() {
     let mut space = [0; ANSWER_LENGTH];
-    for op in (0..0x18).chain(0x80..0x98) {
+    for op in (0..0x20).chain(0x80..0xa0) {
         for a in words() {
             for b in [0, 1, 0x3f80_0000, 0xffc0_0000] {
                 let by_number = call(op, a, b);

@@ -29,7 +29,7 @@ module _ (f : Format) (w : ℕ) where
       go (inl e) = absurd (eqb-false _ _ n e)
       go (inr l) = l
 
-  under-infinity : Finite f w → magnitude f w < infWord f
+  pub under-infinity : Finite f w → magnitude f w < infWord f
   under-infinity h = div-lt-iff-lt-mul (hid-pos f) .0 h
 
   -- neither a zero nor small

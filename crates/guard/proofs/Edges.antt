@@ -7,11 +7,10 @@ use mathlib.Core.Bool.{Bool, true, false, cond}
 use mathlib.Core.List.{List, [], _∷_, _++_, map}
 use lib.IntN.{pos, negsuc}
 use lib.Ieee.{fin, binary32, add, sub, mul, div, lt, le, eq, nanBits, ofBits, toBits, ofInt, toSigned}
-use Rattle.float.specs.Engine.{ieee}
 use Rattle.float.specs.Cos.{cosWord}
 use Rattle.float.specs.Ln.{polynomial, logarithm, lnWord}
 use Rattle.guard.specs.Operations.{opTrunc, opFract, opFloor, opCeil, opRound, opAbs, opCopysign, opSignum, opSqrt, opInvsqrt, opInv, opRecip, opExp, opLn, opPowi, opPowf, opAtan, opAtan2, opCos, opSin, opHypot, opAsin, opAcos, opTan, opRemEuclid, opDivEuclid}
-use Rattle.guard.specs.Gates.{low, high, gateOf, judged}
+use Rattle.guard.specs.Gates.{low, high, gateOf, judgedSize, judged}
 use Rattle.guard.specs.Refusals.{twoFloats, refusesZero, refusesSmall, refusesSign, refusalBehind, refusalOf}
 use Rattle.guard.specs.Guarded.{valueOf}
 
@@ -259,18 +258,22 @@ pub edges : map (λ c. refusalOf (c .op) (c .first) (c .second)) cases ≡ map (
 unfolding refusalBehind judged polynomial logarithm lnWord cosWord add sub mul div lt nanBits ofBits toBits ofInt toSigned
 edges = refl
 
--- ---- the word that is judged: exp's with its sign, powf's product, the larger of two, an infinity for tan beside a zero cosine, a
--- quotient, and else a magnitude
+-- ---- the word that is judged: the larger of two, an infinity for tan beside a zero cosine, a quotient, and else the operand's magnitude; exp's
+-- with its sign, and powf's product
 
-pub judged-words : (judged opExp 0xc000_0000 0 ∷ judged opPowf 0x3f80_0000 0xc000_0000 ∷ judged opAtan2 0xbf80_0000 0xc000_0000 ∷ judged opHypot 0xc000_0000 0x3f80_0000
-    ∷ judged opTan 0xbfc9_0fda 0 ∷ judged opTan 0x3fc9_0fda 0 ∷ judged opTan 0xbfc9_0fdb 0
-    ∷ judged opRemEuclid 0xc120_0000 0x4000_0000 ∷ judged opDivEuclid 0x4120_0000 0xc000_0000 ∷ judged opDivEuclid 0x0000_0000 0x0000_0000
-    ∷ judged opAcos 0x8000_0000 0 ∷ judged opCos 0xbfc9_0fdb 0 ∷ [])
-    ≡ 0xc000_0000 ∷ 0x8000_0000 ∷ 0x4000_0000 ∷ 0x4000_0000
+pub judged-sizes : (judgedSize opAtan2 0xbf80_0000 0xc000_0000 ∷ judgedSize opHypot 0xc000_0000 0x3f80_0000
+    ∷ judgedSize opTan 0xbfc9_0fda 0 ∷ judgedSize opTan 0x3fc9_0fda 0 ∷ judgedSize opTan 0xbfc9_0fdb 0
+    ∷ judgedSize opRemEuclid 0xc120_0000 0x4000_0000 ∷ judgedSize opDivEuclid 0x4120_0000 0xc000_0000 ∷ judgedSize opDivEuclid 0x0000_0000 0x0000_0000
+    ∷ judgedSize opAcos 0x8000_0000 0 ∷ judgedSize opCos 0xbfc9_0fdb 0 ∷ [])
+    ≡ 0x4000_0000 ∷ 0x4000_0000
     ∷ 0x7f80_0000 ∷ 0x3fc9_0fda ∷ 0x7f80_0000
     ∷ 0x40a0_0000 ∷ 0x40a0_0000 ∷ 0x7fc0_0000
     ∷ 0x0000_0000 ∷ 0x3fc9_0fdb ∷ []
-unfolding judged polynomial logarithm lnWord cosWord add sub mul div lt nanBits ofBits toBits ofInt toSigned
+unfolding cosWord add sub mul div lt nanBits ofBits toBits ofInt toSigned
+judged-sizes = refl
+
+pub judged-words : (judged opExp 0xc000_0000 0 ∷ judged opPowf 0x3f80_0000 0xc000_0000 ∷ judged opAbs 0xc000_0000 0 ∷ []) ≡ 0xc000_0000 ∷ 0x8000_0000 ∷ 0x4000_0000 ∷ []
+unfolding judged polynomial logarithm lnWord add sub mul div lt nanBits ofBits toBits ofInt
 judged-words = refl
 
 -- ---- the value of an answered call: sqrt's of a zero is that zero, sqrt's of any other word and another operation's of a zero are raw

@@ -293,6 +293,7 @@ pub fn asin(x: F32) -> Answer
     )
 }
 
+// A zero's is PI/2.
 pub fn acos(x: F32) -> Answer
     ensures { λ r. ⌜ Guards opAcos (x .0) 0 r ⌝ }
 {
@@ -302,6 +303,7 @@ pub fn acos(x: F32) -> Answer
     )
 }
 
+// Refused where the cosine is a zero too.
 pub fn tan(x: F32) -> Answer
     ensures { λ r. ⌜ Guards opTan (x .0) 0 r ⌝ }
 {
@@ -311,7 +313,7 @@ pub fn tan(x: F32) -> Answer
     )
 }
 
-// From 0 to the size of y.
+// What whole y leave of x, from 0 to the size of y.
 pub fn rem_euclid(x: F32, y: F32) -> Answer
     ensures gate { λ r. ⌜ Guards opRemEuclid (x .0) (y .0) r ⌝ }
     ensures range { λ r. ⌜ (Answered r → LeftBy (y .0) (wordOf r)) ⌝ }
@@ -322,6 +324,7 @@ pub fn rem_euclid(x: F32, y: F32) -> Answer
     )
 }
 
+// How many whole y those are.
 pub fn div_euclid(x: F32, y: F32) -> Answer
     ensures { λ r. ⌜ Guards opDivEuclid (x .0) (y .0) r ⌝ }
 {

@@ -1,7 +1,7 @@
 -- rem_euclid's answer is from 0 to the divisor's size, for finite operands and a divisor that is not 0: the remainder is no larger than the
 -- divisor, and a divisor's size added to a remainder below 0 is what lies between. Assumes nothing.
 use Prim.Native.Nat.{ℕ, _-_, _*_, _%_, _^_, _≤_, _<_}
-use native.Mathlib.Nat.{le-refl, le-trans, le-of-eq, le-of-lt, lt-of-lt-of-le, lt-of-le-of-lt, eq-or-lt-of-le, div-lt-iff-lt-mul, mul-pos, mul-comm, mul-assoc, mul-right-comm, mul-le-mul-right, mod-lt, sub-le}
+use native.Mathlib.Nat.{le-refl, le-trans, le-of-eq, le-of-lt, lt-of-lt-of-le, lt-of-le-of-lt, eq-or-lt-of-le, mul-pos, mul-comm, mul-assoc, mul-right-comm, mul-le-mul-right, mod-lt, sub-le}
 use native.Mathlib.Omega.{arith}
 use mathlib.Core.Path.{_≡_, refl, sym, ap, subst, _∙_}
 use mathlib.Core.Logic.{inl, inr}
@@ -18,7 +18,7 @@ use Rattle.format.specs.Fields.{negative, magnitude, infWord}
 use Rattle.format.specs.Classes.{isBelowZero}
 use Rattle.format.specs.Sign.{absWord, withSign}
 use Rattle.format.specs.Value.{units, Finite}
-use Rattle.format.proofs.Fields.{hid-pos}
+use Rattle.format.proofs.Classes.{under-infinity}
 use Rattle.format.proofs.Sign.{own-sign, abs-is}
 use Rattle.format.proofs.AtLeastZero.{fromZeroUp, at-least-zero}
 use Rattle.float.specs.Rounded.{_⊕_, number}
@@ -103,9 +103,6 @@ turned nan h = absurd h
 turned (inf s) h = absurd h
 turned (fin s m e) h = refl
 
-under-infinity : (v : ℕ) → Finite binary32 v → magnitude binary32 v < infWord binary32
-under-infinity v h = div-lt-iff-lt-mul (hid-pos binary32) .0 h
-
 -- ---- the answer
 
 module _ (w v : ℕ) (wf : Finite binary32 w) (vf : Finite binary32 v) (some : 0 < magnitude binary32 v) where
@@ -132,7 +129,7 @@ module _ (w v : ℕ) (wf : Finite binary32 w) (vf : Finite binary32 v) (some : 0
 
   minus : isNotBelow (remainder w v) ≡ false → Minus (remainder w v)
   minus e =
-      let finite-left : magnitude binary32 left < infWord binary32 = lt-of-le-of-lt left-size (under-infinity v vf) in
+      let finite-left : magnitude binary32 left < infWord binary32 = lt-of-le-of-lt left-size (under-infinity binary32 v vf) in
       let s = below left finite-left (sym tested ∙ e) in
       subst Minus (sym (own-sign binary32 left ∙ ap (λ (b : Bool). withSign b (number left)) s) ∙ left-read)
       (turned (number left) (subst (λ (x : Float). T (finite x)) (sym left-read) (most .finite)))
