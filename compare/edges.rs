@@ -15,7 +15,7 @@ enum Says {
 
 use Says::{Answers, Gives, Refuses};
 
-/// Every kernel but those of `LAST`: the first operand of each is a float.
+/// Every kernel but asin, acos, tan and the two euclids: the first operand of each is a float.
 const ALL: &str = "trunc fract floor ceil round abs copysign signum sqrt invsqrt inv recip exp ln powi powf atan atan_norm atan2 cos sin hypot";
 
 /// Kernels, their two words, and what is said of them.
@@ -70,12 +70,16 @@ const EDGES: &[Row] = &[
     ("atan2 hypot", 0x3f80_0000, 0x807f_ffff, Answers),
     ("powf", 0x3f00_0000, 0x0000_0001, Answers),
     // 3: below 0, before the gate
-    ("sqrt invsqrt inv ln powf", 0x8080_0000, 0, Refuses(3)),
-    ("sqrt invsqrt inv ln powf", 0xbf80_0000, 0, Refuses(3)),
-    ("sqrt invsqrt inv ln powf", 0xff7f_ffff, 0, Refuses(3)),
-    ("inv", 0xfe80_0001, 0, Refuses(3)),
+    ("sqrt invsqrt ln powf", 0x8080_0000, 0, Refuses(3)),
+    ("sqrt invsqrt ln powf", 0xbf80_0000, 0, Refuses(3)),
+    ("sqrt invsqrt ln powf", 0xff7f_ffff, 0, Refuses(3)),
     ("powf", 0xc000_0000, 0x7f7f_ffff, Refuses(3)),
     ("powf", 0xc080_0000, 0x3f00_0000, Refuses(3)),
+    // ... but inv, recip and powi take either sign, and powf's power has either
+    ("inv", 0x8080_0000, 0, Gives(0xfe80_0000)),
+    ("inv", 0xbf80_0000, 0, Gives(0xbf80_0000)),
+    ("inv", 0xff7f_ffff, 0, Refuses(4)),
+    ("inv", 0xfe80_0001, 0, Refuses(4)),
     ("recip", 0xbf80_0000, 0, Answers),
     ("powi", 0xbf80_0000, 3, Gives(0xbf80_0000)),
     ("powf", 0x4000_0000, 0xbf80_0000, Answers),
@@ -101,7 +105,7 @@ const EDGES: &[Row] = &[
     ("round", 0xbeff_fffe, 0, Answers),
     ("round", 0xbeff_ffff, 0, Refuses(4)),
     ("round", 0xbf00_0000, 0, Answers),
-    // inv to 2^126, recip with |x| to 2^125
+    // inv, |x| to 2^126, and recip, to 2^125
     ("inv", 0x7e80_0000, 0, Gives(0x0080_0000)),
     ("inv", 0x7e80_0001, 0, Refuses(4)),
     ("inv", 0x7f7f_ffff, 0, Refuses(4)),
@@ -155,19 +159,19 @@ const EDGES: &[Row] = &[
     ("atan2 hypot", 0x8000_0000, 0x0000_0000, Refuses(4)),
     ("atan2 hypot", 0x8000_0000, 0x8000_0000, Refuses(4)),
     ("atan2 hypot", 0x0000_0001, 0x807f_ffff, Refuses(4)),
-    // ... to 2^60
+    // ... past 2^60, to 2^62
     ("atan2 hypot", 0x5d80_0000, 0x0000_0000, Answers),
     ("atan2 hypot", 0x0000_0000, 0x5d80_0000, Answers),
     ("atan2 hypot", 0xdd80_0000, 0x3f80_0000, Answers),
     ("atan2 hypot", 0x3f80_0000, 0xdd80_0000, Answers),
     ("atan2 hypot", 0x5d80_0000, 0xdd80_0000, Answers),
     ("atan2 hypot", 0x5d80_0000, 0x217f_ffff, Answers),
-    ("atan2 hypot", 0x5d80_0001, 0x0000_0000, Refuses(4)),
-    ("atan2 hypot", 0x0000_0000, 0x5d80_0001, Refuses(4)),
-    ("atan2 hypot", 0xdd80_0001, 0x3f80_0000, Refuses(4)),
-    ("atan2 hypot", 0x3f80_0000, 0xdd80_0001, Refuses(4)),
-    ("atan2 hypot", 0x5d80_0001, 0x5d80_0000, Refuses(4)),
-    ("atan2 hypot", 0x5d80_0000, 0x5d80_0001, Refuses(4)),
+    ("atan2 hypot", 0x5d80_0001, 0x0000_0000, Answers),
+    ("atan2 hypot", 0x0000_0000, 0x5d80_0001, Answers),
+    ("atan2 hypot", 0xdd80_0001, 0x3f80_0000, Answers),
+    ("atan2 hypot", 0x3f80_0000, 0xdd80_0001, Answers),
+    ("atan2 hypot", 0x5d80_0001, 0x5d80_0000, Answers),
+    ("atan2 hypot", 0x5d80_0000, 0x5d80_0001, Answers),
     // cos and sin, |x| to 1024
     ("cos sin", 0x4480_0000, 0, Answers),
     ("cos sin", 0x4480_0001, 0, Refuses(4)),
@@ -232,7 +236,8 @@ const LATER: &[Row] = &[
     ("atan2 hypot", 0x3f80_0000, 0x8000_0000, Answers),
 ];
 
-/// Those of asin, acos, tan and the two euclids. The stored list ends with their words, a row at a time, and a new row goes last.
+/// Those of asin, acos, tan and the two euclids, and then any that came after. The stored list ends with their words, a row at a
+/// time, and a new row goes last.
 const LAST: &[Row] = &[
     // 1: infinities and NaN, whatever else holds, and the last words before them
     ("asin acos tan rem_euclid div_euclid", 0x7f80_0000, 0, Refuses(1)),
@@ -401,6 +406,61 @@ const LAST: &[Row] = &[
     ("div_euclid", 0x4080_0000, 0x3faa_aaab, Gives(0x4040_0000)),
     ("rem_euclid", 0xc080_0000, 0x3faa_aaab, Gives(0x3400_0000)),
     ("div_euclid", 0xc080_0000, 0x3faa_aaab, Gives(0xc080_0000)),
+    // inv with either sign, which is the answer's too: 1 and 1.5, about the end 2^126, and about the first normal number
+    ("inv", 0x3f80_0000, 0, Gives(0x3f80_0000)),
+    ("inv", 0xbfc0_0000, 0, Gives(0xbf40_0000)),
+    ("inv", 0x7e7f_ffff, 0, Gives(0x0080_0001)),
+    ("inv", 0xfe7f_ffff, 0, Gives(0x8080_0001)),
+    ("inv", 0xfe80_0000, 0, Gives(0x8080_0000)),
+    ("inv", 0x0080_0001, 0, Gives(0x7e7f_ffff)),
+    ("inv", 0x8080_0001, 0, Gives(0xfe7f_ffff)),
+    // atan2 and hypot, the larger magnitude to 2^62: beside a zero
+    ("atan2 hypot", 0x5e7f_ffff, 0x0000_0000, Answers),
+    ("atan2 hypot", 0x0000_0000, 0x5e7f_ffff, Answers),
+    ("atan2 hypot", 0x5e80_0000, 0x0000_0000, Answers),
+    ("atan2 hypot", 0x0000_0000, 0x5e80_0000, Answers),
+    ("atan2 hypot", 0xde80_0000, 0x0000_0000, Answers),
+    ("atan2 hypot", 0x0000_0000, 0xde80_0000, Answers),
+    ("atan2 hypot", 0x5e80_0001, 0x0000_0000, Refuses(4)),
+    ("atan2 hypot", 0x0000_0000, 0x5e80_0001, Refuses(4)),
+    ("atan2 hypot", 0xde80_0001, 0x0000_0000, Refuses(4)),
+    ("atan2 hypot", 0x0000_0000, 0xde80_0001, Refuses(4)),
+    // ... beside 1
+    ("atan2 hypot", 0x5e80_0000, 0x3f80_0000, Answers),
+    ("atan2 hypot", 0x3f80_0000, 0x5e80_0000, Answers),
+    ("atan2 hypot", 0xde80_0000, 0x3f80_0000, Answers),
+    ("atan2 hypot", 0x3f80_0000, 0xde80_0000, Answers),
+    ("atan2 hypot", 0x5e80_0001, 0x3f80_0000, Refuses(4)),
+    ("atan2 hypot", 0x3f80_0000, 0x5e80_0001, Refuses(4)),
+    ("atan2 hypot", 0xde80_0001, 0x3f80_0000, Refuses(4)),
+    ("atan2 hypot", 0x3f80_0000, 0xde80_0001, Refuses(4)),
+    // ... beside both sides of the end 2^-60
+    ("atan2 hypot", 0x5e80_0000, 0x217f_ffff, Answers),
+    ("atan2 hypot", 0x217f_ffff, 0x5e80_0000, Answers),
+    ("atan2 hypot", 0xde80_0000, 0x2180_0000, Answers),
+    ("atan2 hypot", 0x2180_0000, 0xde80_0000, Answers),
+    ("atan2 hypot", 0x5e80_0001, 0x217f_ffff, Refuses(4)),
+    ("atan2 hypot", 0x217f_ffff, 0x5e80_0001, Refuses(4)),
+    ("atan2 hypot", 0xde80_0001, 0x2180_0000, Refuses(4)),
+    ("atan2 hypot", 0x2180_0000, 0xde80_0001, Refuses(4)),
+    // ... beside each other
+    ("atan2 hypot", 0x5e80_0000, 0x5e80_0000, Answers),
+    ("atan2 hypot", 0x5e80_0000, 0xde80_0000, Answers),
+    ("atan2 hypot", 0xde80_0000, 0x5e80_0000, Answers),
+    ("atan2 hypot", 0xde80_0000, 0xde80_0000, Answers),
+    ("atan2 hypot", 0x5e7f_ffff, 0x5e80_0000, Answers),
+    ("atan2 hypot", 0xde80_0000, 0x5e7f_ffff, Answers),
+    ("atan2 hypot", 0x5e80_0001, 0x5e80_0000, Refuses(4)),
+    ("atan2 hypot", 0x5e80_0000, 0x5e80_0001, Refuses(4)),
+    ("atan2 hypot", 0xde80_0001, 0x5e80_0000, Refuses(4)),
+    ("atan2 hypot", 0x5e80_0000, 0xde80_0001, Refuses(4)),
+    ("atan2 hypot", 0x5e80_0001, 0xde80_0001, Refuses(4)),
+    // ... and between 2^60, where they ended once, and 2^62
+    ("atan2 hypot", 0xdd80_0001, 0x0000_0000, Answers),
+    ("atan2 hypot", 0x0000_0000, 0xdd80_0001, Answers),
+    ("atan2 hypot", 0x5d80_0001, 0x5d80_0001, Answers),
+    ("atan2 hypot", 0x5e00_0000, 0xdd80_0001, Answers),
+    ("atan2 hypot", 0xde00_0000, 0x5e00_0000, Answers),
 ];
 
 impl Says {

@@ -38,7 +38,8 @@ fn exp_takes(x: f32) -> bool {
 const MOST_POWER: i32 = 1_048_576;
 
 /// The magnitudes about which a refusal begins or ends, for one kernel or another. The stored list's random words are made from
-/// them, so that they stay as they are: 1, at which asin and acos end, is an edge anyway.
+/// them, so that they stay as they are: atan2 and hypot once ended at 2^60. 2^62, at which they end now, and 1, at which asin
+/// and acos end, are edges anyway.
 pub const ENDS: [f32; 15] =
     [0.0, f32::MIN_POSITIVE, two_to(-60), 0.5, 87.0, 88.0, 1024.0, two_to(23), two_to(31), two_to(32), two_to(60), two_to(64), two_to(125), two_to(126), f32::INFINITY];
 
@@ -52,18 +53,18 @@ impl Gate {
             two_floats: ["copysign", "powf", "atan2", "hypot", "rem_euclid", "div_euclid"].contains(&name),
             no_zero: ["invsqrt", "inv", "recip", "ln", "powi", "powf"].contains(&name),
             no_small: ["sqrt", "invsqrt", "inv", "recip", "ln", "powi", "powf"].contains(&name),
-            no_sign: ["sqrt", "invsqrt", "inv", "ln", "powf"].contains(&name),
+            no_sign: ["sqrt", "invsqrt", "ln", "powf"].contains(&name),
             keeps_zero: name == "sqrt",
             within: match name {
                 "trunc" | "fract" => |x, _| x.abs() < two_to(32),
                 "floor" | "ceil" => |x, _| x.abs() <= two_to(31),
                 "round" => |x, _| x.abs() < two_to(23) && x.abs().to_bits() != 0x3eff_ffff,
-                "inv" => |x, _| x <= two_to(126),
+                "inv" => |x, _| x.abs() <= two_to(126),
                 "recip" => |x, _| x.abs() <= two_to(125),
                 "exp" => |x, _| exp_takes(x),
                 "powf" => |x, n| exp_takes(n * F32(x).ln().0),
                 "atan" | "atan_norm" => |x, _| x.abs() < two_to(64),
-                "atan2" | "hypot" => |y, x| (two_to(-60)..=two_to(60)).contains(&y.abs().max(x.abs())),
+                "atan2" | "hypot" => |y, x| (two_to(-60)..=two_to(62)).contains(&y.abs().max(x.abs())),
                 "cos" | "sin" => |x, _| x.abs() <= 1024.0,
                 "asin" => |x, _| x.abs() < 1.0,
                 "acos" => |x, _| x == 0.0 || (two_to(-60)..1.0).contains(&x.abs()),

@@ -15,15 +15,15 @@ use lib.Ieee.{Format, binary32, Float, prec, emax, low, hid, ones, round, neg, a
 use lib.Ieee.Back.{round-whole}
 use lib.Ieee.Exact.{HasValue, round-exact}
 use lib.Ieee.Fits.{two}
-use Rattle.format.specs.Fields.{negative, magnitude, exponent, fraction, oneWord}
+use Rattle.format.specs.Fields.{negative, exponent, fraction, oneWord}
 use Rattle.format.specs.Value.{unitsAt, units, Finite}
 use Rattle.format.specs.Sign.{turnedWord}
 use Rattle.format.specs.Whole.{throughInt, floorValue, floorWord, ceilWord}
 use Rattle.format.specs.Meaning.{NotAbove, IsFloor, IsCeil, To31}
-use Rattle.format.proofs.Fields.{magnitude-lt, magnitude-of, fraction-lt, two-fields}
+use Rattle.format.proofs.Fields.{fraction-lt, two-fields}
 use Rattle.format.proofs.Cast.{held, word-cast}
 use Rattle.format.proofs.PartsMeaning.{full}
-use Rattle.format.proofs.Sign.{sign-set, turned-read, turned-written}
+use Rattle.format.proofs.Sign.{turned-sign, turned-magnitude, turned-field, turned-units, turned-read, turned-written}
 use Rattle.format.proofs.Value.{word-value, value-word, add-values, lt-values}
 use Rattle.format.proofs.Whole.{floor-fits, floor-no-nan}
 
@@ -309,12 +309,6 @@ turned-order true a true b h = h
 turned-back : (s : Bool) (a : ℕ) (t : Bool) (b : ℕ) → NotAbove (not t) b (not s) a → NotAbove s a t b
 turned-back s a t b h = subst (λ (i : Bool). NotAbove i a t b) (not-not s) (subst (λ (j : Bool). NotAbove (not (not s)) a j b) (not-not t) (turned-order (not t) b (not s) a h))
 
-turned-units : (f : Format) (w : ℕ) → units f (turnedWord f w) ≡ units f w
-turned-units f w = let z = sign-set f (not (negative f w)) w in rw (z .field, z .digits)
-
-turned-sign : (f : Format) (w : ℕ) → negative f (turnedWord f w) ≡ not (negative f w)
-turned-sign f w = sign-set f (not (negative f w)) w .sign
-
 floor-to-ceil : (f : Format) (w r : ℕ) → IsFloor f (turnedWord f w) r → IsCeil f w (turnedWord f r)
 floor-to-ceil f w r c =
     let w-size = turned-units f w in
@@ -322,7 +316,7 @@ floor-to-ceil f w r c =
     let r-sign = turned-sign f r in
     let signs : negative f (turnedWord f w) ≡ not (negative f w) = turned-sign f w in
     record {
-      finite = subst (λ (x : ℕ). x < ones f) (sym (sign-set f (not (negative f r)) r .field)) (c .finite);
+      finite = subst (λ (x : ℕ). x < ones f) (sym (turned-field f r)) (c .finite);
       whole = rw r-size (c .whole);
       above = rw (r-sign, r-size) (turned-back (negative f w) (units f w) (not (negative f r)) (units f r) (rw (not-not (negative f r)) (rw (signs, w-size) at (c .below))));
       smallest = λ i n h.
@@ -332,9 +326,6 @@ floor-to-ceil f w r c =
       zero = λ e. r-sign ∙ ap not (c .zero (sym r-size ∙ e));
     }
 
-same-magnitude : (f : Format) (w : ℕ) → magnitude f (turnedWord f w) ≡ magnitude f w
-same-magnitude f w = magnitude-of f (magnitude f w) (magnitude-lt f w) (not (negative f w))
-
 ceil-by-floor : (f : Format) (w : ℕ) → ceilWord f w ≡ turnedWord f (floorWord f (turnedWord f w))
 ceil-by-floor f w =
     let x = neg (ofBits f w) in
@@ -343,4 +334,4 @@ ceil-by-floor f w =
 pub ceil-is : (w : ℕ) → To31 w → IsCeil binary32 w (ceilWord binary32 w)
 ceil-is w h =
     rw (ceil-by-floor binary32 w)
-    (floor-to-ceil binary32 w (floorWord binary32 (turnedWord binary32 w)) (floor-is (turnedWord binary32 w) (rw (same-magnitude binary32 w) h)))
+    (floor-to-ceil binary32 w (floorWord binary32 (turnedWord binary32 w)) (floor-is (turnedWord binary32 w) (rw (turned-magnitude binary32 w) h)))

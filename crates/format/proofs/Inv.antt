@@ -1,19 +1,23 @@
--- inv's answer times its operand lies from 1 to 9/8, and turning the operand's sign turns the answer's and nothing else. Assumes nothing.
+-- inv's answer times its operand lies from 1 to 9/8, and turning the operand's sign turns the answer's and nothing else, so that the bound is
+-- one on magnitudes. Assumes nothing.
 use Prim.Native.Nat.{ℕ, _+_, _-_, _*_, _/_, _%_, _^_, _≤_, _<_}
 use native.Mathlib.Nat.{zero-add, add-comm, add-mul, mul-le-mul-left, mod-lt, mod-eq-of-lt, mod-eq-sub-mod, div-add-mod', div-mul-le-self, le-of-mul-le-mul-right, le-of-lt, le-trans, add-sub-of-le, sub-add-cancel, sub-le}
 use native.Mathlib.Omega.{arith}
-use mathlib.Core.Path.{_≡_, refl, sym, ap, _∙_}
+use mathlib.Core.Path.{_≡_, refl, sym, ap, subst, _∙_}
 use mathlib.Core.Logic.{_⊎_, inl, inr}
 use mathlib.Core.Bool.{Bool, true, false, not, cond, false≢true}
+use mathlib.Core.List.{[], _∷_, map}
 use borrow.Author.Tests.{le-leb, lt-leb, leb-true, leb-false}
 use lib.Dec.{leb, lit<}
 use lib.Pow.{pow-add}
 use lib.Ieee.{Format, binary32, binary64, emax, low, hid, top}
-use Rattle.format.specs.Fields.{width, negative, signBit, infWord}
+use Rattle.format.specs.Fields.{width, negative, magnitude, signBit, infWord}
 use Rattle.format.specs.Sign.{turnedWord}
 use Rattle.format.specs.Value.{units, Finite}
 use Rattle.format.specs.Estimates.{invMagic, invWord, Normal, Invertible, InvBound}
-use Rattle.format.proofs.Fields.{hid-pos}
+use Rattle.format.proofs.Fields.{hid-pos, magnitude-lt, sign-and-magnitude}
+use Rattle.format.proofs.Sign.{turned-sign, turned-field, turned-units}
+use Rattle.format.proofs.Classes.{positive}
 use Rattle.format.proofs.Order.{either, squares, no-wrap}
 use Rattle.format.proofs.Normal.{normal-finite, unsigned-below, twice-units}
 
@@ -109,9 +113,16 @@ inv-of-one = refl
 pub inv-of-three-halves : 8 * (units binary32 0x3fc0_0000 * units binary32 (invWord binary32 0x3fc0_0000)) ≡ 9 * (2 ^ 149 * 2 ^ 149)
 inv-of-three-halves = refl
 
+-- -1, both ends of what has an inverse below 0, the words past the magic number, where the subtraction wraps, and a NaN of either sign
+pub inv-of-either-sign : (map (invWord binary32) (0xbf80_0000 ∷ 0x8080_0000 ∷ 0xfe80_0000 ∷ 0x7f00_0001 ∷ 0xff00_0001 ∷ 0x7fc0_0000 ∷ 0xffc0_0000 ∷ [])
+    ≡ 0xbf80_0000 ∷ 0xfe80_0000 ∷ 0x8080_0000 ∷ 0xffff_ffff ∷ 0x7fff_ffff ∷ 0xff40_0000 ∷ 0x7f40_0000 ∷ [])
+    × (map (invWord binary64) (0xbff0_0000_0000_0000 ∷ 0x8010_0000_0000_0000 ∷ 0xffd0_0000_0000_0000 ∷ 0x7fe0_0000_0000_0001 ∷ 0xffe0_0000_0000_0001 ∷ 0x7ff8_0000_0000_0000 ∷ 0xfff8_0000_0000_0000 ∷ [])
+    ≡ 0xbff0_0000_0000_0000 ∷ 0xffd0_0000_0000_0000 ∷ 0x8010_0000_0000_0000 ∷ 0xffff_ffff_ffff_ffff ∷ 0x7fff_ffff_ffff_ffff ∷ 0xffe8_0000_0000_0000 ∷ 0x7fe8_0000_0000_0000 ∷ [])
+inv-of-either-sign = (refl, refl)
+
 -- an answer of the other sign is none
-pub inv-not-turned : InvBound binary32 0x3f80_0000 0xbf80_0000 → ⊥
-inv-not-turned b = false≢true (sym (b .sign))
+pub inv-not-turned : (InvBound binary32 0x3f80_0000 0xbf80_0000 → ⊥) × (InvBound binary32 0xbf80_0000 0x3f80_0000 → ⊥)
+inv-not-turned = (λ b. false≢true (sym (b .sign)), λ b. false≢true (b .sign))
 
 -- ---- the sign
 
@@ -168,3 +179,33 @@ inv-sign f w h =
     let l : w < top f + top f = omega arith in
     let r : invWord f w < top f + top f = rw (word-is f) (mod-lt _ (omega (arith, magic-unsigned f))) in
     ap (invWord f) (turned-is f w l) ∙ rw (word-is f) (turns (top f) (invMagic f) (magic-unsigned f) w l) ∙ sym (turned-is f (invWord f w) r)
+
+-- ---- the bound on magnitudes
+
+-- with both signs turned the bound is the same, since units have no sign
+bound-turned : (f : Format) (w r : ℕ) → InvBound f w r → InvBound f (turnedWord f w) (turnedWord f r)
+bound-turned f w r b =
+    record {
+      finite = rw (turned-field f r) (b .finite);
+      sign = turned-sign f r ∙ ap not (b .sign) ∙ sym (turned-sign f w);
+      least = rw (turned-units f w, turned-units f r) (b .least);
+      most = rw (turned-units f w, turned-units f r) (b .most);
+    }
+
+-- a word whose sign is set is its magnitude with the sign turned
+from-magnitude : (f : Format) (w : ℕ) → w < 2 * top f → negative f w ≡ true → turnedWord f (magnitude f w) ≡ w
+from-magnitude f w l e =
+    let h = magnitude-lt f w in
+    rw (lt-leb (top f) (magnitude f w) h, mod-eq-of-lt {n = magnitude f w} {m = top f} h) (ap (λ (s : Bool). signBit f s + magnitude f w) (sym e) ∙ sign-and-magnitude f w l)
+
+pub inv-bound-by-size : (f : Format) (w : ℕ) → w < 2 * top f → Invertible f (magnitude f w) → InvBound f w (invWord f w)
+inv-bound-by-size f w l i = go (negative f w) refl
+  where
+    m : ℕ
+    m = magnitude f w
+
+    go : (s : Bool) → negative f w ≡ s → InvBound f w (invWord f w)
+    go true e =
+        subst (λ (x : ℕ). InvBound f x (invWord f x)) (from-magnitude f w l e)
+        (rw (inv-sign f m (omega (arith, magnitude-lt f w))) (bound-turned f m (invWord f m) (inv-bound f m i)))
+    go false e = subst (λ (x : ℕ). InvBound f x (invWord f x)) (positive f w e) (inv-bound f m i)

@@ -10,7 +10,8 @@ use lib.Ieee.{Format, Float, nan, inf, fin, prec, low, hid, ones, top, odd, neg,
 use lib.Ieee.Bits.{ofBits-toBits, toBits-ofBits}
 use Rattle.format.specs.Fields.{negative, magnitude, exponent, fraction, signBit}
 use Rattle.format.specs.Sign.{absWord, copysignWord, turnedWord, withSign, SignSet}
-use Rattle.format.proofs.Fields.{magnitude-lt, sign-of, exponent-of, fraction-of, low-of-magnitude}
+use Rattle.format.specs.Value.{units}
+use Rattle.format.proofs.Fields.{magnitude-lt, sign-of, magnitude-of, exponent-of, fraction-of, low-of-magnitude}
 
 odd-signed : (d : ℕ) (s t : Bool) (q k l : ℕ) → withSign s (odd d t q k l) ≡ odd d s q k l
 unfolding odd
@@ -52,6 +53,19 @@ pub copysign-is : (f : Format) (w y : ℕ) → SignSet f (negative f y) w (copys
 copysign-is f w y = sign-set f (negative f y) w
 
 -- ---- the sign turned
+
+module _ (f : Format) (w : ℕ) where
+  pub turned-sign : negative f (turnedWord f w) ≡ not (negative f w)
+  turned-sign = sign-set f (not (negative f w)) w .sign
+
+  pub turned-magnitude : magnitude f (turnedWord f w) ≡ magnitude f w
+  turned-magnitude = magnitude-of f (magnitude f w) (magnitude-lt f w) (not (negative f w))
+
+  pub turned-field : exponent f (turnedWord f w) ≡ exponent f w
+  turned-field = sign-set f (not (negative f w)) w .field
+
+  pub turned-units : units f (turnedWord f w) ≡ units f w
+  turned-units = rw (turned-field, sign-set f (not (negative f w)) w .digits)
 
 -- a word's value has the word's sign
 pub own-sign : (f : Format) (w : ℕ) → ofBits f w ≡ withSign (negative f w) (ofBits f w)

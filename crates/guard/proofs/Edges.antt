@@ -14,7 +14,7 @@ use Rattle.guard.specs.Gates.{low, high, gateOf, judgedSize, judged}
 use Rattle.guard.specs.Refusals.{twoFloats, refusesZero, refusesSmall, refusesSign, refusalBehind, refusalOf}
 use Rattle.guard.specs.Guarded.{valueOf}
 
--- ---- the ends as numbers: 2 ^ 32, 2 ^ 31, 2 ^ 23, 2 ^ 126, 2 ^ 125, -87, 88, 2 ^ 64, 2 ^ -60, 2 ^ 60, 1024 and 1
+-- ---- the ends as numbers: 2 ^ 32, 2 ^ 31, 2 ^ 23, 2 ^ 126, 2 ^ 125, -87, 88, 2 ^ 64, 2 ^ -60, 2 ^ 62, 1024 and 1
 
 -- the word above an end that is under a bound
 abbrev under : ℕ → ℕ
@@ -32,7 +32,7 @@ pub ends-are-numbers : map (ofBits binary32)
     ∷ under opAsin ∷ from opAcos ∷ under opAcos ∷ to opTan ∷ under opRemEuclid ∷ under opDivEuclid ∷ [])
     ≡ fin false 1 (pos 32) ∷ fin false 1 (pos 32) ∷ fin false 1 (pos 31) ∷ fin false 1 (pos 31) ∷ fin false 1 (pos 23) ∷ fin false 1 (pos 126) ∷ fin false 1 (pos 125)
     ∷ fin true 87 (pos 0) ∷ fin false 11 (pos 3) ∷ fin true 87 (pos 0) ∷ fin false 11 (pos 3)
-    ∷ fin false 1 (pos 64) ∷ fin false 1 (negsuc 59) ∷ fin false 1 (pos 60) ∷ fin false 1 (negsuc 59) ∷ fin false 1 (pos 60) ∷ fin false 1 (pos 10) ∷ fin false 1 (pos 10)
+    ∷ fin false 1 (pos 64) ∷ fin false 1 (negsuc 59) ∷ fin false 1 (pos 62) ∷ fin false 1 (negsuc 59) ∷ fin false 1 (pos 62) ∷ fin false 1 (pos 10) ∷ fin false 1 (pos 10)
     ∷ fin false 1 (pos 0) ∷ fin false 1 (negsuc 59) ∷ fin false 1 (pos 0) ∷ fin false 1 (pos 10) ∷ fin false 1 (pos 23) ∷ fin false 1 (pos 23) ∷ []
 unfolding ofBits
 ends-are-numbers = refl
@@ -56,7 +56,7 @@ abbrev ofNeither : List ℕ
 ofNeither = opTrunc ∷ opFract ∷ opFloor ∷ opCeil ∷ opRound ∷ opAbs ∷ opCopysign ∷ opSignum ∷ opExp ∷ opAtan ∷ opAtan2 ∷ opCos ∷ opSin ∷ opHypot ∷ opAsin ∷ opTan ∷ opRemEuclid ∷ opDivEuclid ∷ []
 
 abbrev ofSigns : List ℕ
-ofSigns = opSqrt ∷ opInvsqrt ∷ opInv ∷ opLn ∷ opPowf ∷ []
+ofSigns = opSqrt ∷ opInvsqrt ∷ opLn ∷ opPowf ∷ []
 
 abbrev kept : (ℕ → Bool) → List ℕ → List ℕ
 kept p [] = []
@@ -119,7 +119,9 @@ ends =
     ∷ at opInvsqrt 0x007f_ffff 0x0000_0000 9
     ∷ at opInv 0x7e80_0000 0x0000_0000 0
     ∷ at opInv 0x7e80_0001 0x0000_0000 4
-    ∷ at opInv 0xfe80_0001 0x0000_0000 3
+    ∷ at opInv 0xfe80_0000 0x0000_0000 0
+    ∷ at opInv 0xfe80_0001 0x0000_0000 4
+    ∷ at opInv 0xff7f_ffff 0x0000_0000 4
     ∷ at opRecip 0x7e00_0000 0x0000_0000 0
     ∷ at opRecip 0xfe00_0000 0x0000_0000 0
     ∷ at opRecip 0x7e00_0001 0x0000_0000 4
@@ -155,16 +157,20 @@ ends =
     ∷ at opAtan2 0x217f_ffff 0x0000_0000 4
     ∷ at opAtan2 0x0000_0000 0xa180_0000 0
     ∷ at opAtan2 0x0000_0000 0xa17f_ffff 4
-    ∷ at opAtan2 0x5d80_0000 0x0000_0000 0
-    ∷ at opAtan2 0x5d80_0001 0x0000_0000 4
-    ∷ at opAtan2 0x0000_0000 0x5d80_0000 0
-    ∷ at opAtan2 0x0000_0000 0x5d80_0001 4
+    ∷ at opAtan2 0x5e80_0000 0x0000_0000 0
+    ∷ at opAtan2 0x5e80_0001 0x0000_0000 4
+    ∷ at opAtan2 0x0000_0000 0xde80_0000 0
+    ∷ at opAtan2 0x0000_0000 0xde80_0001 4
     ∷ at opAtan2 0x0000_0000 0x0000_0000 4
     ∷ at opAtan2 0x0000_0000 0x7f80_0000 1
     ∷ at opHypot 0x2180_0000 0x0000_0000 0
     ∷ at opHypot 0x217f_ffff 0x0000_0000 4
-    ∷ at opHypot 0x0000_0000 0x5d80_0000 0
-    ∷ at opHypot 0x0000_0000 0x5d80_0001 4
+    ∷ at opHypot 0x0000_0000 0x2180_0000 0
+    ∷ at opHypot 0x0000_0000 0x217f_ffff 4
+    ∷ at opHypot 0xde80_0000 0x0000_0000 0
+    ∷ at opHypot 0xde80_0001 0x0000_0000 4
+    ∷ at opHypot 0x0000_0000 0x5e80_0000 0
+    ∷ at opHypot 0x0000_0000 0x5e80_0001 4
     ∷ at opCos 0x4480_0000 0x0000_0000 0
     ∷ at opCos 0xc480_0000 0x0000_0000 0
     ∷ at opCos 0x4480_0001 0x0000_0000 4
@@ -238,11 +244,11 @@ lists =
     ++ each ofSmall 0x8000_0001 0x0000_0000 9
     ++ each ofSmall 0x807f_ffff 0x7f7f_ffff 9
     ++ each ofSmall 0x0080_0000 0x0000_0001 0
-    ++ each (opRecip ∷ opPowi ∷ []) 0x8080_0000 0x0000_0001 0
+    ++ each (opInv ∷ opRecip ∷ opPowi ∷ []) 0x8080_0000 0x0000_0001 0
     ++ each ofNeither 0x807f_ffff 0x3f80_0000 0
     -- 3: a first operand below 0
     ++ each ofSigns 0x8080_0000 0x0000_0000 3
-    ++ each (opTrunc ∷ opFract ∷ opFloor ∷ opCeil ∷ opRound ∷ opAbs ∷ opCopysign ∷ opSignum ∷ opRecip ∷ opExp ∷ opPowi ∷ opAtan ∷ opAtan2 ∷ opCos ∷ opSin ∷ opHypot ∷ opTan ∷ []) 0xbf80_0000 0x0000_0001 0
+    ++ each (opTrunc ∷ opFract ∷ opFloor ∷ opCeil ∷ opRound ∷ opAbs ∷ opCopysign ∷ opSignum ∷ opInv ∷ opRecip ∷ opExp ∷ opPowi ∷ opAtan ∷ opAtan2 ∷ opCos ∷ opSin ∷ opHypot ∷ opTan ∷ []) 0xbf80_0000 0x0000_0001 0
     ++ each (opAsin ∷ opAcos ∷ opRemEuclid ∷ opDivEuclid ∷ []) 0xbf00_0000 0xbf80_0000 0
     -- 4: no gate
     ++ each (opAbs ∷ opCopysign ∷ opSignum ∷ opSqrt ∷ opInvsqrt ∷ opLn ∷ opPowi ∷ []) 0x7f7f_ffff 0x0000_0001 0
@@ -264,11 +270,11 @@ edges = refl
 pub judged-sizes : (judgedSize opAtan2 0xbf80_0000 0xc000_0000 ∷ judgedSize opHypot 0xc000_0000 0x3f80_0000
     ∷ judgedSize opTan 0xbfc9_0fda 0 ∷ judgedSize opTan 0x3fc9_0fda 0 ∷ judgedSize opTan 0xbfc9_0fdb 0
     ∷ judgedSize opRemEuclid 0xc120_0000 0x4000_0000 ∷ judgedSize opDivEuclid 0x4120_0000 0xc000_0000 ∷ judgedSize opDivEuclid 0x0000_0000 0x0000_0000
-    ∷ judgedSize opAcos 0x8000_0000 0 ∷ judgedSize opCos 0xbfc9_0fdb 0 ∷ [])
+    ∷ judgedSize opAcos 0x8000_0000 0 ∷ judgedSize opCos 0xbfc9_0fdb 0 ∷ judgedSize opInv 0xbf80_0000 0 ∷ [])
     ≡ 0x4000_0000 ∷ 0x4000_0000
     ∷ 0x7f80_0000 ∷ 0x3fc9_0fda ∷ 0x7f80_0000
     ∷ 0x40a0_0000 ∷ 0x40a0_0000 ∷ 0x7fc0_0000
-    ∷ 0x0000_0000 ∷ 0x3fc9_0fdb ∷ []
+    ∷ 0x0000_0000 ∷ 0x3fc9_0fdb ∷ 0x3f80_0000 ∷ []
 unfolding cosWord add sub mul div lt nanBits ofBits toBits ofInt toSigned
 judged-sizes = refl
 
@@ -276,10 +282,13 @@ pub judged-words : (judged opExp 0xc000_0000 0 ∷ judged opPowf 0x3f80_0000 0xc
 unfolding judged polynomial logarithm lnWord add sub mul div lt nanBits ofBits toBits ofInt
 judged-words = refl
 
--- ---- the value of an answered call: sqrt's of a zero is that zero, sqrt's of any other word and another operation's of a zero are raw
+-- ---- the value of an answered call: sqrt's of a zero is that zero, sqrt's of any other word and another operation's of a zero are raw, and so
+-- is inv's of a number below 0, which keeps the sign
 
 pub values : (valueOf opSqrt 0x0000_0000 0 ∷ valueOf opSqrt 0x8000_0000 0 ∷ valueOf opSqrt 0x0000_0001 0 ∷ valueOf opSqrt 0x4080_0000 0
-    ∷ valueOf opAbs 0x8000_0000 0 ∷ valueOf opSignum 0x8000_0000 0 ∷ valueOf opInv 0x0000_0000 0 ∷ [])
-    ≡ 0x0000_0000 ∷ 0x8000_0000 ∷ 0x1fc0_0000 ∷ 0x4000_0000 ∷ 0x0000_0000 ∷ 0xbf80_0000 ∷ 0x7f00_0000 ∷ []
+    ∷ valueOf opAbs 0x8000_0000 0 ∷ valueOf opSignum 0x8000_0000 0 ∷ valueOf opInv 0x0000_0000 0
+    ∷ valueOf opInv 0xbf80_0000 0 ∷ valueOf opInv 0x8080_0000 0 ∷ valueOf opInv 0xfe80_0000 0 ∷ [])
+    ≡ 0x0000_0000 ∷ 0x8000_0000 ∷ 0x1fc0_0000 ∷ 0x4000_0000 ∷ 0x0000_0000 ∷ 0xbf80_0000 ∷ 0x7f00_0000
+    ∷ 0xbf80_0000 ∷ 0xfe80_0000 ∷ 0x8080_0000 ∷ []
 unfolding le lt eq nanBits ofBits
 values = refl

@@ -1,17 +1,20 @@
--- An answered guarded call has its meaning or its bound, with no side condition left: the gate has seen to it. Assumes nothing.
+-- An answered guarded call has its meaning or its bound, with no side condition left: the gate has seen to it. And inv takes a turned sign
+-- to a turned sign. Assumes nothing.
 use Prim.Native.Nat.{ℕ, _^_, _<_}
-use mathlib.Core.Path.{_≡_, refl}
+use mathlib.Core.Path.{_≡_, refl, sym, ap, _∙_}
 use mathlib.Core.Bool.{Bool, true, false, cond}
 use lib.Ieee.{binary32}
 use Rattle.format.specs.Classes.{isZero}
+use Rattle.format.specs.Sign.{turnedWord}
 use Rattle.format.specs.Meaning.{IsTrunc, IsFract, IsFloor, IsCeil, IsRound}
 use Rattle.format.specs.Estimates.{sqrtWord, Normal, SqrtBound, InvBound, InvsqrtBound, InvsqrtTight}
 use Rattle.format.proofs.Classes.{finite-of, normal-of, zero-bound}
+use Rattle.format.proofs.Sign.{turned-magnitude}
 use Rattle.format.proofs.PartsMeaning.{trunc-under32, fract-under32}
 use Rattle.format.proofs.FloorMeaning.{floor-is, ceil-is}
 use Rattle.format.proofs.RoundMeaning.{round-is-nearest}
 use Rattle.format.proofs.Sqrt.{sqrt-bound}
-use Rattle.format.proofs.Inv.{inv-bound}
+use Rattle.format.proofs.Inv.{inv-sign, inv-bound-by-size}
 use Rattle.format.proofs.Invsqrt.{invsqrt-bound, invsqrt-tight}
 use Rattle.float.specs.RemEuclid.{LeftBy}
 use Rattle.sizes.proofs.Euclid.{divisor-not-zero}
@@ -19,8 +22,9 @@ use Rattle.sizes.proofs.Remainder.{rem-euclid-within}
 use Rattle.guard.specs.declared.Answer.{Answer}
 use Rattle.guard.specs.Operations.{opTrunc, opFract, opFloor, opCeil, opRound, opSqrt, opInvsqrt, opInv, opRemEuclid}
 use Rattle.guard.specs.Gates.{judged}
-use Rattle.guard.specs.Guarded.{wordOf, Answered, Guards}
-use Rattle.guard.proofs.Gives.{answered-none, answered-word}
+use Rattle.guard.specs.Refusals.{refusalBehind, refusalOf}
+use Rattle.guard.specs.Guarded.{wordOf, Answered, Guards, TurnsSign}
+use Rattle.guard.proofs.Gives.{answered-none, none-answered, answered-word}
 use Rattle.guard.proofs.Open.{Open, opened}
 use Rattle.guard.proofs.NoNan.{under32, to31, under23, invertible, quotient-under}
 
@@ -68,8 +72,8 @@ module _ (a b : ℕ) (r : Answer) where
   pub invsqrt-tightly : Guards opInvsqrt a b r → Answered r → InvsqrtTight a (wordOf r)
   invsqrt-tightly g h = rw (answered-word g h) (invsqrt-tight a (invsqrt-normal g h))
 
-  pub inv-bounded : Guards opInv a b r → Answered r → InvBound binary32 a (wordOf r)
-  inv-bounded g h = rw (answered-word g h) (inv-bound binary32 a (invertible a b (open-to opInv a b r g h)))
+  pub inv-bounded : a < 2 ^ 32 → Guards opInv a b r → Answered r → InvBound binary32 a (wordOf r)
+  inv-bounded k g h = rw (answered-word g h) (inv-bound-by-size binary32 a k (invertible a b (open-to opInv a b r g h)))
 
   -- ---- the remainder
 
@@ -78,3 +82,17 @@ module _ (a b : ℕ) (r : Answer) where
   rem-euclid-left g h =
       let o = open-to opRemEuclid a b r g h in
       rw (answered-word g h) (rem-euclid-within a b (finite-of binary32 a (o .first)) (finite-of binary32 b (o .second)) (divisor-not-zero a b (quotient-under a b (o .gate))))
+
+-- ---- the sign of inv
+
+-- a sign changes no refusal of inv, since its tests and its gate look at the magnitude
+pub inv-refused-alike : (a b : ℕ) → refusalOf opInv (turnedWord binary32 a) b ≡ refusalOf opInv a b
+unfolding refusalBehind judged
+inv-refused-alike a b = rw (turned-magnitude binary32 a)
+
+pub inv-turns : (a : ℕ) (r : Answer) → a < 2 ^ 32 → Guards opInv a 0 r → TurnsSign opInv a r
+inv-turns a r k g s t = (t .refusal ∙ inv-refused-alike a 0 ∙ sym (g .refusal), turned)
+  where
+    turned : Answered r → wordOf s ≡ turnedWord binary32 (wordOf r)
+    turned h =
+        answered-word t (none-answered t (inv-refused-alike a 0 ∙ answered-none g h)) ∙ inv-sign binary32 a k ∙ ap (turnedWord binary32) (sym (answered-word g h))

@@ -3,7 +3,7 @@
 use Prim.Native.Nat.{ℕ, _^_, _≤_, _<_}
 use native.Mathlib.Nat.{le-refl, le-of-lt, pos-of-ne-zero}
 use native.Mathlib.Omega.{arith}
-use mathlib.Core.Path.{_≡_, refl, sym, ap, subst, _∙_}
+use mathlib.Core.Path.{_≡_, refl, sym, ap, _∙_}
 use mathlib.Core.Logic.{_⊎_, inl, inr}
 use mathlib.Core.Bool.{Bool, true, false, cond, _&&_, true≢false, false≢true}
 use borrow.Author.Tests.{leb-true, leb-false, eqb-true, eqb-false}
@@ -18,7 +18,7 @@ use Rattle.format.specs.Classes.{isEndless, isZero}
 use Rattle.format.specs.Fields.{magnitude, infWord}
 use Rattle.format.specs.Meaning.{Under32, To31, Under23}
 use Rattle.format.specs.Estimates.{Invertible}
-use Rattle.format.proofs.Classes.{finite-of, above-small, positive, no-sign, normal-of}
+use Rattle.format.proofs.Classes.{finite-of, above-small, normal-of}
 use Rattle.format.proofs.Fields.{magnitude-lt}
 use Rattle.format.proofs.Nan.{nan-read, nan-written}
 use Rattle.float.specs.Engine.{ieee}
@@ -69,12 +69,9 @@ module _ (a : ℕ) where
   under64 : passes (gateOf opAtan) (magnitude binary32 a) ≡ true → magnitude binary32 a < 0x5f80_0000
   under64 e = let r = by-magnitude (gateOf opAtan) a refl e in omega arith
 
-pub invertible : (a b : ℕ) → Open opInv a b → Invertible binary32 a
+pub invertible : (a b : ℕ) → Open opInv a b → Invertible binary32 (magnitude binary32 a)
 unfolding judged
-invertible a b o = record {
-  above = normal-of binary32 a (o .first) (o .zero) (o .small) (o .sign) .above;
-  below = subst (λ (x : ℕ). x ≤ 0x7e80_0000) (positive binary32 a (no-sign binary32 a (o .zero) (o .sign))) (by-magnitude (gateOf opInv) a refl (o .gate) .high);
-}
+invertible a b o = record { above = above-small binary32 a (o .zero) (o .small); below = by-magnitude (gateOf opInv) a refl (o .gate) .high }
 
 module _ (a : ℕ) where
   to125 : passes (gateOf opRecip) (magnitude binary32 a) ≡ true → magnitude binary32 a ≤ 0x7e00_0000
@@ -149,7 +146,6 @@ record Pair (m n : ℕ) : Type 0 where
   second : n ≤ 0x5e80_0000
   either : (0x2180_0000 ≤ m) ⊎ (0x2180_0000 ≤ n)
 
--- its gate ends at 2 ^ 60, and the laws reach to 2 ^ 62
 pair : (a b : ℕ) → passes (gateOf opAtan2) (larger a b) ≡ true → Pair (magnitude binary32 a) (magnitude binary32 b)
 pair a b e =
     let l = larger-is a b in
@@ -208,7 +204,7 @@ each =
     ⨟ (λ a b h k o. signum-number a (finite-of binary32 a (o .first)))
     ⨟ (λ a b h k o. chosen (isZero binary32 a) a _ (own a (o .first)) (λ z. sqrt-number a (normal-of binary32 a (o .first) z (o .small) (o .sign))))
     ⨟ (λ a b h k o. invsqrt-number a (normal-of binary32 a (o .first) (o .zero) (o .small) (o .sign)))
-    ⨟ (λ a b h k o. inv-number a (invertible a b o))
+    ⨟ (λ a b h k o. inv-number a h (invertible a b o))
     ⨟ (λ a b h k o. recip-number a (above-small binary32 a (o .zero) (o .small)) (to125 a (o .gate)))
     ⨟ (λ a b h k o. exp-number a (within-exp a (not-endless a (o .first)) (o .gate)))
     ⨟ (λ a b h k o. ln-number a (normal-of binary32 a (o .first) (o .zero) (o .small) (o .sign)))

@@ -5,6 +5,7 @@ use mathlib.Core.Bool.{cond, _&&_}
 use lib.Dec.{eqb}
 use lib.Ieee.{binary32, ofBits, toBits}
 use Rattle.format.specs.Classes.{isZero}
+use Rattle.format.specs.Sign.{turnedWord}
 use Rattle.format.specs.Parts.{truncWord, fractWord}
 use Rattle.raw.specs.Raw.{Kernel, kernelOf, operandsOf, rawOf}
 use Rattle.guard.specs.declared.Guarded.{Guarded}
@@ -76,7 +77,11 @@ valueOf op a b = valueAt op (kernelOf op) a b
 abbrev pub Guards : ℕ → ℕ → ℕ → Answer → Type 0
 Guards op a b = Gives (refusalOf op a b) (valueOf op a b)
 
--- the same by number: 6 where the number has no kernel
+-- the call of an operand with its sign turned is refused alike, and where there is an answer, that has its sign turned too
+abbrev pub TurnsSign : ℕ → ℕ → Answer → Type 0
+TurnsSign op a r = (s : Answer) → Guards op (turnedWord binary32 a) 0 s → (refusalGiven s ≡ refusalGiven r) × (Answered r → wordOf s ≡ turnedWord binary32 (wordOf r))
+
+-- an operation by number: 6 where the number has no kernel
 abbrev pub refusalByNumber : ℕ → ℕ → ℕ → ℕ
 refusalByNumber op a b = cond (eqb (operandsOf (kernelOf op)) 0) 6 (refusalOf op a b)
 

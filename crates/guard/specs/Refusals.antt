@@ -34,7 +34,7 @@ abbrev pub refusesSmall : ℕ → Bool
 refusesSmall op = eqb op opSqrt || refusesZero op
 
 abbrev pub refusesSign : ℕ → Bool
-refusesSign = among (opSqrt ∷ opInvsqrt ∷ opInv ∷ opLn ∷ opPowf ∷ [])
+refusesSign = among (opSqrt ∷ opInvsqrt ∷ opLn ∷ opPowf ∷ [])
 
 -- a number of the table, the operations that give it, and when it holds of an operation and its two words
 pub record Refusal : Type 0 where

@@ -12,7 +12,7 @@ ghost use Rattle.float.specs.Atan.{atanNormWord};
 ghost use Rattle.float.specs.RemEuclid.{LeftBy};
 ghost use Rattle.guard.specs.Operations.{opTrunc, opFract, opFloor, opCeil, opRound, opAbs, opCopysign, opSignum, opSqrt, opInvsqrt, opInv, opRecip, opExp, opLn, opPowi, opPowf, opAtan, opAtan2, opCos, opSin, opHypot, opAsin, opAcos, opTan, opRemEuclid, opDivEuclid};
 ghost use Rattle.guard.specs.Refusals.{refusalOf};
-ghost use Rattle.guard.specs.Guarded.{refusalGiven, wordOf, secondOf, Answered, refusedWith, Gives, Guards, GuardsByNumber, GivesParts};
+ghost use Rattle.guard.specs.Guarded.{refusalGiven, wordOf, secondOf, Answered, refusedWith, Gives, Guards, TurnsSign, GuardsByNumber, GivesParts};
 use float::F32;
 use float::cast;
 
@@ -178,9 +178,11 @@ pub fn invsqrt(x: F32) -> Answer
     )
 }
 
+// About 1/x, of either sign: the sign turned turns the answer's, and changes no refusal.
 pub fn inv(x: F32) -> Answer
     ensures gate { λ r. ⌜ Guards opInv (x .0) 0 r ⌝ }
     ensures bound { λ r. ⌜ (Answered r → InvBound binary32 (x .0) (wordOf r)) ⌝ }
+    ensures sign { λ r. ⌜ TurnsSign opInv (x .0) r ⌝ }
 {
     answered(
         refusal::first(gate::of(number::INV), number::INV, x, 0),

@@ -129,7 +129,6 @@ fn refuses_sign(op: u32) -> bool
     match op {
         number::SQRT => true,
         number::INVSQRT => true,
-        number::INV => true,
         number::LN => true,
         number::POWF => true,
         _ => false,

@@ -7,7 +7,7 @@ use mathlib.Core.Path.{_≡_}
 use mathlib.Core.Bool.{false}
 use borrow.Author.Tests.{ne-eqb}
 use lib.Ieee.{Format, binary32, nanBits, ones}
-use Rattle.format.specs.Fields.{exponent, oneWord}
+use Rattle.format.specs.Fields.{magnitude, exponent, oneWord}
 use Rattle.format.specs.Value.{Finite}
 use Rattle.format.specs.Sign.{absWord, copysignWord, signumWord}
 use Rattle.format.specs.Parts.{truncWord, fractWord}
@@ -18,7 +18,7 @@ use Rattle.format.proofs.Sign.{abs-is, copysign-is}
 use Rattle.format.proofs.PartsMeaning.{trunc-under32, fract-under32}
 use Rattle.format.proofs.FloorMeaning.{floor-is, ceil-is}
 use Rattle.format.proofs.RoundMeaning.{round-is-nearest}
-use Rattle.format.proofs.Inv.{inv-finite}
+use Rattle.format.proofs.Inv.{inv-bound-by-size}
 use Rattle.format.proofs.AtLeastZero.{up-to-infinity}
 use Rattle.format.proofs.Invsqrt.{invsqrt-finite}
 
@@ -63,8 +63,8 @@ sqrt-of-word w h = rw (up-to-infinity binary32 w h) (finite-number binary32 ((w 
 pub sqrt-number : (w : ℕ) → Normal binary32 w → nanBits binary32 (sqrtWord binary32 w) ≡ false
 sqrt-number w n = sqrt-of-word w (le-of-lt (n .below))
 
-pub inv-number : (w : ℕ) → Invertible binary32 w → nanBits binary32 (invWord binary32 w) ≡ false
-inv-number w h = finite-number binary32 (invWord binary32 w) (inv-finite binary32 w h)
+pub inv-number : (w : ℕ) → w < 2 ^ 32 → Invertible binary32 (magnitude binary32 w) → nanBits binary32 (invWord binary32 w) ≡ false
+inv-number w l h = finite-number binary32 (invWord binary32 w) (inv-bound-by-size binary32 w l h .finite)
 
 pub invsqrt-number : (w : ℕ) → Normal binary32 w → nanBits binary32 (invsqrtWord w) ≡ false
 invsqrt-number w h = finite-number binary32 (invsqrtWord w) (invsqrt-finite w h)

@@ -3,7 +3,7 @@ use borrow.Author.Needs.{needs}
 use Rattle.guard.specs.Operations.{opInv}
 use Rattle.guard.specs.Guarded.{Guards}
 use Rattle.guard.proofs.Guards.{guards}
-use Rattle.guard.proofs.Meaning.{inv-bounded}
+use Rattle.guard.proofs.Meaning.{inv-bounded, inv-turns}
 use Rattle.guard.proofs.inv.Statement.{statement}
 use Rattle.guard.proofs.inv.Tie as tie
 
@@ -23,4 +23,5 @@ inv-spec =
     (λ c κs. search needs)
     (λ c.
     let word = c .before .before .before .before .args .x .0 in
-    (gate c, inv-bounded word 0 (c .answered .result) (gate c))))
+    let r = c .answered .result in
+    (gate c, (inv-bounded word 0 r (search needs) (gate c), inv-turns word r (search needs) (gate c)))))

@@ -1,9 +1,12 @@
--- `float::F32::inv` meets its contract: the subtraction is the definition's, and its bound is the format's law. Assumes nothing.
+-- `float::F32::inv` meets its contract: the subtraction is the definition's, and its bound and its sign are the format's laws. Assumes
+-- nothing.
+use Prim.Native.Nat.{_^_, _<_}
 use borrow.Author.Needs.{needs}
-use mathlib.Core.Path.{_≡_, sym, subst}
+use mathlib.Core.Path.{sym, ap, subst, _∙_}
 use lib.Ieee.{binary32}
+use Rattle.format.specs.Sign.{turnedWord}
 use Rattle.format.specs.Estimates.{InvBound}
-use Rattle.format.proofs.Inv.{inv-bound}
+use Rattle.format.proofs.Inv.{inv-sign, inv-bound-by-size}
 use Rattle.float.proofs.F32.inv.Statement.{statement}
 use Rattle.float.proofs.F32.inv.Tie as tie
 
@@ -14,5 +17,6 @@ inv-spec =
     (λ c.
     let w = c .before .args .self .0 in
     let e = c .difference .ensures in
-    (e, λ i. subst (InvBound binary32 w) (sym e) (inv-bound binary32 w i))) in
+    let l : w < 2 ^ 32 = search needs in
+    (e, (λ i. subst (InvBound binary32 w) (sym e) (inv-bound-by-size binary32 w l i), inv-sign binary32 w l ∙ ap (turnedWord binary32) (sym e)))) in
     tie.close met

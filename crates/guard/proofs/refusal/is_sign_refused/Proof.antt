@@ -4,4 +4,6 @@ use Rattle.guard.proofs.refusal.is_sign_refused.Statement.{statement}
 use Rattle.guard.proofs.refusal.is_sign_refused.Tie as tie
 
 pub is-sign-refused-spec : {M : Type 1} → statement M
-is-sign-refused-spec = tie.close (tie.spec (λ c κs. search needs) (λ c κs. search needs) (λ c. rw (c .before .refuses-sign .ensures, c .is-below-zero .ensures)))
+is-sign-refused-spec =
+    let met = tie.spec (λ c κs. search needs) (λ c κs. search needs) (λ c. rw (c .before .refuses-sign .ensures, c .is-below-zero .ensures)) in
+    tie.close met

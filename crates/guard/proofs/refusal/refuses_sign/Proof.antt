@@ -13,5 +13,4 @@ refuses-sign-spec =
     (λ c. rw (c .match .keys2))
     (λ c. rw (c .match .keys3))
     (λ c. rw (c .match .keys4))
-    (λ c. rw (c .match .keys5))
-    (λ c. sym (unlisted (9 ∷ 10 ∷ 11 ∷ 14 ∷ 16 ∷ []) _ (c .match .rest))))
+    (λ c. sym (unlisted (9 ∷ 10 ∷ 14 ∷ 16 ∷ []) _ (c .match .rest))))
