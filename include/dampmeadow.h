@@ -39,12 +39,13 @@ extern "C" {
  * too: those of a size under 2^-126. The example is a guarded call and its answer.
  *
  * From sqrt to tan they are estimates, as they are in micromath: quick rather than close. sqrt may be some 6 percent too large
- * and inv 12.5; hypot of 3 and 4 is 5.125 here, and sqrt of 2 is 1.5. ln of a number below 1 is up to 0.118 off, and powf with
- * it: ln of 0.99 is -0.0198 here for -0.01005, and 0.75 to 2 is 0.444 for 0.5625. A power of powi that is too large is an
- * infinity, and of an x under 0.5 in size it gives up early, with 0 or an infinity: 0.4 to 75 is 0. asin is up to 0.018 off and
- * acos 0.029: asin of 0.1 is 0.0940 here for 0.1002, and acos of 0.75 is 0.743 for 0.723. tan is within 0.0013 while it is 1
- * at most in size, and further off the steeper it gets: of 1.5 it is 14.24 for 14.10 and of 1.57 1273 for 1256, and at the
- * steepest angles even its sign may be wrong. Of an angle under 0.00000005 in size it is 0, without the sign.
+ * and inv, in size, 12.5; hypot of 3 and 4 is 5.125 here, and sqrt of 2 is 1.5. inv of -x is that of x with the other sign. ln
+ * of a number below 1 is up to 0.118 off, and powf with it: ln of 0.99 is -0.0198 here for -0.01005, and 0.75 to 2 is 0.444 for
+ * 0.5625. A power of powi that is too large is an infinity, and of an x under 0.5 in size it gives up early, with 0 or an
+ * infinity: 0.4 to 75 is 0. asin is up to 0.018 off and acos 0.029: asin of 0.1 is 0.0940 here for 0.1002, and acos of 0.75 is
+ * 0.743 for 0.723. tan is within 0.0013 while it is 1 at most in size, and further off the steeper it gets: of 1.5 it is 14.24
+ * for 14.10 and of 1.57 1273 for 1256, and at the steepest angles even its sign may be wrong. Of an angle under 0.00000005 in
+ * size it is 0, without the sign.
  *
  * rem_euclid and div_euclid are no estimates. Of an x that is not below 0 rem_euclid is exact. Of one below 0 it is rounded
  * once, and may be |y| itself: -1e-45 by 1 leaves 1. -0 leaves -0, and so does an x below 0 that y divides. div_euclid counts
@@ -67,7 +68,7 @@ enum dampmeadow_operation {
     DAMPMEADOW_SIGNUM = 0x08,     /* 1 or -1 by x's sign bit, 0 too     every finite x              -2.5 -> -1            */
     DAMPMEADOW_SQRT = 0x09,       /* square root, of a zero that zero   0, -0, or x above 0         4 -> 2                */
     DAMPMEADOW_INVSQRT = 0x0a,    /* 1 over the square root             x above 0                   1 -> 0.966225028      */
-    DAMPMEADOW_INV = 0x0b,        /* 1/x, the quickest                  x above 0, to 2^126         1.5 -> 0.75           */
+    DAMPMEADOW_INV = 0x0b,        /* 1/x, the quickest                  x not 0, |x| to 2^126       1.5 -> 0.75           */
     DAMPMEADOW_RECIP = 0x0c,      /* 1/x, closer                        x not 0, |x| to 2^125       4 -> 0.250000119      */
     DAMPMEADOW_EXP = 0x0d,        /* e to the x                         x from -87 to 88            0.5 -> 1.6484375      */
     DAMPMEADOW_LN = 0x0e,         /* natural logarithm                  x above 0                   0.75 -> -0.405448198  */
@@ -77,11 +78,11 @@ enum dampmeadow_operation {
                                   /*                                    -87 to 88                                         */
     DAMPMEADOW_ATAN = 0x11,       /* arctangent, in radians             |x| under 2^64              0.5 -> 0.466342807    */
     DAMPMEADOW_ATAN2 = 0x12,      /* the angle of (x, y): y is first    the larger size from 2^-60  1, 2 -> 0.466342807   */
-                                  /*                                    to 2^60                                           */
+                                  /*                                    to 2^62                                           */
     DAMPMEADOW_COS = 0x13,        /* cosine of radians                  |x| to 1024                 1 -> 0.540483773      */
     DAMPMEADOW_SIN = 0x14,        /* sine of radians                    |x| to 1024                 1 -> 0.842167795      */
     DAMPMEADOW_HYPOT = 0x15,      /* length of (x, y)                   the larger size from 2^-60  3, 4 -> 5.125         */
-                                  /*                                    to 2^60                                           */
+                                  /*                                    to 2^62                                           */
     DAMPMEADOW_ASIN = 0x16,       /* arcsine, in radians                |x| under 1                 0.5 -> 0.536748469    */
     DAMPMEADOW_ACOS = 0x17,       /* arccosine, in radians              0, -0, or |x| from 2^-60    0.5 -> 1.04882419     */
                                   /*                                    and under 1                                       */
@@ -109,7 +110,7 @@ enum dampmeadow_refusal {                  /* looked at    given when           
     DAMPMEADOW_NOT_FINITE = 1,             /* third        an operand is an infinity or a NaN                         */
     DAMPMEADOW_ZERO = 2,                   /* fourth       the first operand is 0 or -0: invsqrt, inv, recip, ln,     */
                                            /*              powi, powf                                                 */
-    DAMPMEADOW_NEGATIVE = 3,               /* sixth        the first operand is below 0: sqrt, invsqrt, inv, ln, powf */
+    DAMPMEADOW_NEGATIVE = 3,               /* sixth        the first operand is below 0: sqrt, invsqrt, ln, powf      */
     DAMPMEADOW_OUTSIDE = 4,                /* seventh      outside what the operation takes, as listed above          */
     DAMPMEADOW_POWER_OUTSIDE = 5,          /* last         powi's power is below -1048576 or above 1048576            */
     DAMPMEADOW_NO_SUCH_OPERATION = 6,      /* second       no operation has this number                               */

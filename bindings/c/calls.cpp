@@ -75,9 +75,18 @@ int main()
 {
     hold("sqrt 4", call(DAMPMEADOW_SQRT, 4.0f), {DAMPMEADOW_ANSWERED, 2.0f});
     hold("sqrt -1", call(DAMPMEADOW_SQRT, -1.0f), {DAMPMEADOW_NEGATIVE, 0.0f});
+    hold("inv -1", call(DAMPMEADOW_INV, -1.0f), {DAMPMEADOW_ANSWERED, -1.0f});
+    hold("inv -2^126", call(DAMPMEADOW_INV, dampmeadow_float(0xfe800000)), {DAMPMEADOW_ANSWERED, dampmeadow_float(0x80800000)});
+    hold("inv -2^-126", call(DAMPMEADOW_INV, dampmeadow_float(0x80800000)), {DAMPMEADOW_ANSWERED, dampmeadow_float(0xfe800000)});
+    hold("inv, the first below -2^126", call(DAMPMEADOW_INV, dampmeadow_float(0xfe800001)), {DAMPMEADOW_OUTSIDE, 0.0f});
     hold("cos 2000", call(DAMPMEADOW_COS, 2000.0f), {DAMPMEADOW_OUTSIDE, 0.0f});
     hold("hypot 3 4", call(DAMPMEADOW_HYPOT, 3.0f, 4.0f), {DAMPMEADOW_ANSWERED, 5.125f});
     hold("hypot 0 0", call(DAMPMEADOW_HYPOT, 0.0f, 0.0f), {DAMPMEADOW_OUTSIDE, 0.0f});
+    const float most = dampmeadow_float(0x5e800000), past = dampmeadow_float(0x5e800001); // 2^62 and the first above it
+    hold("hypot 2^62 0", call(DAMPMEADOW_HYPOT, most, 0.0f), {DAMPMEADOW_ANSWERED, most});
+    hold("hypot, the first above 2^62 and 0", call(DAMPMEADOW_HYPOT, past, 0.0f), {DAMPMEADOW_OUTSIDE, 0.0f});
+    hold("atan2 2^62 0", call(DAMPMEADOW_ATAN2, most, 0.0f), {DAMPMEADOW_ANSWERED, 1.57079637f});
+    hold("atan2, the first above 2^62 and 0", call(DAMPMEADOW_ATAN2, past, 0.0f), {DAMPMEADOW_OUTSIDE, 0.0f});
     hold("atan2 1 0", call(DAMPMEADOW_ATAN2, 1.0f, 0.0f), {DAMPMEADOW_ANSWERED, 1.57079637f});
     hold("asin 1", call(DAMPMEADOW_ASIN, 1.0f), {DAMPMEADOW_OUTSIDE, 0.0f});
     hold("acos 0", call(DAMPMEADOW_ACOS, 0.0f), {DAMPMEADOW_ANSWERED, 1.57079637f});
@@ -91,9 +100,10 @@ int main()
     hold("atan_norm 1", {0, dampmeadow_float(dampmeadow_atan_norm(0x3f800000))}, {0, 0.5f});
     parts("the parts of -2.5", -2.5f, DAMPMEADOW_ANSWERED, -2.0f, -0.5f);
     parts("the parts of 1e10", 1e10f, DAMPMEADOW_OUTSIDE, 0.0f, 0.0f);
-    const std::vector<float> film = {4.0f, -1.0f, 0.0f};
+    const std::vector<float> film = {4.0f, -1.0f, 0.0f}, slopes = {1.5f, -1.5f, -0.0f, -1e-40f, -1e38f};
     strip("a strip of sqrt", DAMPMEADOW_SQRT, film, film, DAMPMEADOW_ANSWERED, {{0, 2.0f}, {DAMPMEADOW_NEGATIVE, 0.0f}, {0, 0.0f}});
     strip("a strip of ln", DAMPMEADOW_LN, {0.0f, 1e-40f, -1e-40f}, film, DAMPMEADOW_ANSWERED, {{DAMPMEADOW_ZERO, 0.0f}, {DAMPMEADOW_SMALL, 0.0f}, {DAMPMEADOW_SMALL, 0.0f}});
+    strip("a strip of inv", DAMPMEADOW_INV, slopes, slopes, DAMPMEADOW_ANSWERED, {{0, 0.75f}, {0, -0.75f}, {DAMPMEADOW_ZERO, 0.0f}, {DAMPMEADOW_SMALL, 0.0f}, {DAMPMEADOW_OUTSIDE, 0.0f}});
     strip("a strip of hypot", DAMPMEADOW_HYPOT, {3.0f, 0.0f}, {4.0f, 0.0f}, DAMPMEADOW_ANSWERED, {{0, 5.125f}, {DAMPMEADOW_OUTSIDE, 0.0f}});
     strip("a strip of div_euclid", DAMPMEADOW_DIV_EUCLID, {7.0f, -7.0f, 7.0f}, {3.0f, 3.0f, 0.0f}, DAMPMEADOW_ANSWERED, {{0, 2.0f}, {0, -3.0f}, {DAMPMEADOW_OUTSIDE, 0.0f}});
     strip("a strip of no places", DAMPMEADOW_HYPOT, {}, {}, DAMPMEADOW_ANSWERED, {});

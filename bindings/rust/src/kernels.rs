@@ -115,18 +115,20 @@ pub fn invsqrt(x: f32) -> Result<f32, Refusal> {
     guarded(Operation::Invsqrt, x.to_bits(), 0)
 }
 
-/// 1/x, the quickest, 12.5 percent too large at most. Takes x above 0, to 2^126.
+/// 1/x, the quickest, 12.5 percent too large in size at most; of -x it is that of x with the other sign. Takes x that is not 0,
+/// |x| to 2^126.
 ///
 /// ```
 /// use dampmeadow::{inv, Refusal};
 /// assert_eq!(inv(1.5), Ok(0.75));
+/// assert_eq!(inv(-1.5), Ok(-0.75));
 /// assert_eq!(inv(1.0e38), Err(Refusal::Outside));
 /// ```
 pub fn inv(x: f32) -> Result<f32, Refusal> {
     guarded(Operation::Inv, x.to_bits(), 0)
 }
 
-/// 1/x, closer than [`inv`] and of either sign. Takes x that is not 0, |x| to 2^125.
+/// 1/x, closer than [`inv`]. Takes x that is not 0, |x| to 2^125.
 ///
 /// ```
 /// use dampmeadow::{recip, Refusal};
@@ -198,7 +200,7 @@ pub fn atan(x: f32) -> Result<f32, Refusal> {
     guarded(Operation::Atan, x.to_bits(), 0)
 }
 
-/// The angle of the point (x, y), in radians. Takes a pair of which the larger magnitude is from 2^-60 to 2^60.
+/// The angle of the point (x, y), in radians. Takes a pair of which the larger magnitude is from 2^-60 to 2^62.
 ///
 /// ```
 /// use dampmeadow::{atan2, Refusal};
@@ -233,7 +235,7 @@ pub fn sin(x: f32) -> Result<f32, Refusal> {
     guarded(Operation::Sin, x.to_bits(), 0)
 }
 
-/// The length of (x, y). Takes a pair of which the larger magnitude is from 2^-60 to 2^60.
+/// The length of (x, y). Takes a pair of which the larger magnitude is from 2^-60 to 2^62.
 ///
 /// ```
 /// use dampmeadow::{hypot, Refusal};

@@ -19,7 +19,7 @@ pub enum Refusal {
     NotFinite,
     /// 2: the first operand is 0 or -0: invsqrt, inv, recip, ln, powi, powf.
     Zero,
-    /// 3: the first operand is below 0: sqrt, invsqrt, inv, ln, powf.
+    /// 3: the first operand is below 0: sqrt, invsqrt, ln, powf.
     Negative,
     /// 4: outside what the operation takes.
     Outside,

@@ -67,14 +67,13 @@ fn both_sides_of_the_gates() {
         (Operation::Round, 0x4aff_ffff, 0x4b00_0000),
         (Operation::Round, 0x3eff_fffe, 0x3eff_ffff),
         (Operation::Inv, 0x7e80_0000, 0x7e80_0001),
+        (Operation::Inv, 0xfe80_0000, 0xfe80_0001),
         (Operation::Recip, 0x7e00_0000, 0x7e00_0001),
         (Operation::Exp, 0x42b0_0000, 0x42b0_0001),
         (Operation::Exp, 0xc2ae_0000, 0xc2ae_0001),
         (Operation::Atan, 0x5f7f_ffff, 0x5f80_0000),
         (Operation::Cos, 0x4480_0000, 0x4480_0001),
         (Operation::Sin, 0xc480_0000, 0xc480_0001),
-        (Operation::Hypot, 0x2180_0000, 0x217f_ffff),
-        (Operation::Atan2, 0x5d80_0000, 0x5d80_0001),
         (Operation::Asin, 0x3f7f_ffff, 0x3f80_0000),
         (Operation::Asin, 0xbf7f_ffff, 0xbf80_0000),
         (Operation::Acos, 0x3f7f_ffff, 0x3f80_0000),
@@ -97,6 +96,54 @@ fn both_sides_of_the_gates() {
     assert_eq!(atan_norm(f32::from_bits(0x5f80_0000)), Err(Refusal::Outside));
     assert!(powi(3.0, 1_048_576).is_ok() && powi(3.0, -1_048_576).is_ok());
     assert_eq!(powi(3.0, -1_048_577), Err(Refusal::PowerOutside));
+}
+
+#[test]
+fn the_larger_of_a_pair_is_from_two_to_minus_60_to_two_to_62() {
+    let (low, first, last, past) = (0x217f_ffff, 0x2180_0000, 0x5e80_0000, 0x5e80_0001);
+    for op in [Operation::Atan2, Operation::Hypot] {
+        for (sign, other) in [(0, 0), (1 << 31, 0), (0, 1 << 31), (1 << 31, 1 << 31)] {
+            let asked = |a: u32, b: u32| guarded(op, a | sign, b | other);
+            for (a, b) in [(first, 0), (0, first), (first, low), (last, 0), (0, last), (last, last), (low, last)] {
+                assert!(asked(a, b).is_ok(), "{op:?} {a:08x} {b:08x} {sign:x} {other:x}");
+            }
+            for (a, b) in [(0, 0), (low, 0), (0, low), (low, low), (past, 0), (0, past), (past, last), (last, past)] {
+                assert_eq!(asked(a, b), Err(Refusal::Outside), "{op:?} {a:08x} {b:08x} {sign:x} {other:x}");
+            }
+        }
+    }
+    let end = f32::from_bits(last);
+    assert_eq!(atan2(end, -end), Ok(2.35619449));
+    assert_eq!((hypot(-end, 0.0), hypot(end, end)), (Ok(end), Ok(1.5 * end)));
+}
+
+#[test]
+fn turning_the_sign_of_x_turns_that_of_inv_and_nothing_else() {
+    const SIGN: u32 = 1 << 31;
+    for a in words() {
+        let (x, turned) = (f32::from_bits(a), f32::from_bits(a ^ SIGN));
+        // a refusal is the same for either sign
+        assert_eq!(inv(turned).map(f32::to_bits), inv(x).map(|v| v.to_bits() ^ SIGN), "{a:08x}");
+        assert_eq!(raw(Operation::Inv, a ^ SIGN, 0), raw(Operation::Inv, a, 0).map(|v| v ^ SIGN), "{a:08x}");
+        if let Ok(v) = inv(x) {
+            let product = f64::from(x) * f64::from(v); // exact
+            assert!((1.0..=1.125).contains(&product), "{a:08x} {product}");
+        }
+    }
+    for (a, due) in [
+        (0xbf80_0000, Ok(0xbf80_0000)),
+        (0xfe80_0000, Ok(0x8080_0000)),
+        (0x8080_0000, Ok(0xfe80_0000)),
+        (0xfe80_0001, Err(Refusal::Outside)),
+        (0xff7f_ffff, Err(Refusal::Outside)),
+        (0x807f_ffff, Err(Refusal::Small)),
+        (0x8000_0001, Err(Refusal::Small)),
+        (0x8000_0000, Err(Refusal::Zero)),
+        (0xff80_0000, Err(Refusal::NotFinite)),
+        (0xffc0_0001, Err(Refusal::NotFinite)),
+    ] {
+        assert_eq!(inv(f32::from_bits(a)).map(f32::to_bits), due, "{a:08x}");
+    }
 }
 
 #[test]
@@ -196,7 +243,7 @@ fn a_zero_is_not_a_small_number() {
             assert_eq!(guarded(op, small, second), Err(Refusal::Small), "{op:?} {small:08x}");
         }
         assert!(guarded(op, 0x0080_0000, if op == Powf { 0 } else { second }).is_ok(), "{op:?}");
-        let below = if matches!(op, Recip | Powi) { None } else { Some(Refusal::Negative) };
+        let below = if matches!(op, Inv | Recip | Powi) { None } else { Some(Refusal::Negative) };
         assert_eq!(guarded(op, 0x8080_0000, second).err(), below, "{op:?}");
     }
     // the answer to -0 is -0, which compares equal to 0
