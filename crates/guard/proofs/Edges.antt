@@ -3,14 +3,15 @@
 -- not the raw word. Assumes nothing.
 use Prim.Native.Nat.{ℕ, _+_}
 use mathlib.Core.Path.{_≡_, refl}
-use mathlib.Core.Bool.{Bool, true, false, cond}
+use mathlib.Core.Bool.{Bool, true, false, cond, not}
 use mathlib.Core.List.{List, [], _∷_, _++_, map}
+use lib.Dec.{eqb}
 use lib.IntN.{pos, negsuc}
 use lib.Ieee.{fin, binary32, add, sub, mul, div, lt, le, eq, nanBits, ofBits, toBits, ofInt, toSigned}
 use Rattle.float.specs.Cos.{cosWord}
 use Rattle.float.specs.Ln.{polynomial, logarithm, lnWord}
 use Rattle.guard.specs.Operations.{opTrunc, opFract, opFloor, opCeil, opRound, opAbs, opCopysign, opSignum, opSqrt, opInvsqrt, opInv, opRecip, opExp, opLn, opPowi, opPowf, opAtan, opAtan2, opCos, opSin, opHypot, opAsin, opAcos, opTan, opRemEuclid, opDivEuclid}
-use Rattle.guard.specs.Gates.{low, high, gateOf, judgedSize, judged}
+use Rattle.guard.specs.Gates.{low, high, other, gateOf, judgedSize, judged}
 use Rattle.guard.specs.Refusals.{twoFloats, refusesZero, refusesSmall, refusesSign, refusalBehind, refusalOf}
 use Rattle.guard.specs.Guarded.{valueOf}
 
@@ -73,6 +74,14 @@ small-refusers = refl
 
 pub sign-refusers : kept refusesSign all ≡ ofSigns
 sign-refusers = refl
+
+-- ---- the rows that do not begin at 0, and those with a word that is judged the other way
+
+pub not-from-zero : kept (λ op. not (eqb (from op) 0x0000_0000)) all ≡ opExp ∷ opPowf ∷ opAtan2 ∷ opHypot ∷ opAcos ∷ []
+not-from-zero = refl
+
+pub otherwise : (kept (λ op. not (eqb (other (gateOf op)) 0xffff_ffff)) all ≡ opRound ∷ opAcos ∷ []) × (other (gateOf opRound) ∷ other (gateOf opAcos) ∷ [] ≡ 0x3eff_ffff ∷ 0x0000_0000 ∷ [])
+otherwise = (refl, refl)
 
 -- ---- an operation, its two words, and the refusal
 
@@ -246,8 +255,9 @@ lists =
     ++ each ofSmall 0x0080_0000 0x0000_0001 0
     ++ each (opInv ∷ opRecip ∷ opPowi ∷ []) 0x8080_0000 0x0000_0001 0
     ++ each ofNeither 0x807f_ffff 0x3f80_0000 0
-    -- 3: a first operand below 0
+    -- 3: a first operand below 0, before the gate, which powf's product would not pass
     ++ each ofSigns 0x8080_0000 0x0000_0000 3
+    ++ each (opPowf ∷ []) 0xc000_0000 0x7f7f_ffff 3
     ++ each (opTrunc ∷ opFract ∷ opFloor ∷ opCeil ∷ opRound ∷ opAbs ∷ opCopysign ∷ opSignum ∷ opInv ∷ opRecip ∷ opExp ∷ opPowi ∷ opAtan ∷ opAtan2 ∷ opCos ∷ opSin ∷ opHypot ∷ opTan ∷ []) 0xbf80_0000 0x0000_0001 0
     ++ each (opAsin ∷ opAcos ∷ opRemEuclid ∷ opDivEuclid ∷ []) 0xbf00_0000 0xbf80_0000 0
     -- 4: no gate

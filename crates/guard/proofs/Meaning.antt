@@ -1,9 +1,11 @@
 -- An answered guarded call has its meaning or its bound, with no side condition left: the gate has seen to it. And inv takes a turned sign
 -- to a turned sign. Assumes nothing.
 use Prim.Native.Nat.{ℕ, _^_, _<_}
+use native.Mathlib.Omega.{arith}
 use mathlib.Core.Path.{_≡_, refl, sym, ap, _∙_}
 use mathlib.Core.Bool.{Bool, true, false, cond}
-use lib.Ieee.{binary32}
+use lib.Dec.{lit<}
+use lib.Ieee.{binary32, nanBits, ofBits}
 use Rattle.format.specs.Classes.{isZero}
 use Rattle.format.specs.Sign.{turnedWord}
 use Rattle.format.specs.Meaning.{IsTrunc, IsFract, IsFloor, IsCeil, IsRound}
@@ -19,12 +21,13 @@ use Rattle.format.proofs.Invsqrt.{invsqrt-bound, invsqrt-tight}
 use Rattle.float.specs.RemEuclid.{LeftBy}
 use Rattle.sizes.proofs.Euclid.{divisor-not-zero}
 use Rattle.sizes.proofs.Remainder.{rem-euclid-within}
+use Rattle.guard.specs.declared.Guarded.the-variants.{Number}
 use Rattle.guard.specs.declared.Answer.{Answer}
 use Rattle.guard.specs.Operations.{opTrunc, opFract, opFloor, opCeil, opRound, opSqrt, opInvsqrt, opInv, opRemEuclid}
 use Rattle.guard.specs.Gates.{judged}
 use Rattle.guard.specs.Refusals.{refusalBehind, refusalOf}
-use Rattle.guard.specs.Guarded.{wordOf, Answered, Guards, TurnsSign}
-use Rattle.guard.proofs.Gives.{answered-none, none-answered, answered-word}
+use Rattle.guard.specs.Guarded.{refusedWith, given, wordOf, Answered, Guards, TurnsSign}
+use Rattle.guard.proofs.Gives.{numbered, answered-none, none-answered, answered-word}
 use Rattle.guard.proofs.Open.{Open, opened}
 use Rattle.guard.proofs.NoNan.{under32, to31, under23, invertible, quotient-under}
 
@@ -96,3 +99,12 @@ inv-turns a r k g s t = (t .refusal ∙ inv-refused-alike a 0 ∙ sym (g .refusa
     turned : Answered r → wordOf s ≡ turnedWord binary32 (wordOf r)
     turned h =
         answered-word t (none-answered t (inv-refused-alike a 0 ∙ answered-none g h)) ∙ inv-sign binary32 a k ∙ ap (turnedWord binary32) (sym (answered-word g h))
+
+-- a call of 1 that answers -1, as the call of -1 does, is none of these, and neither is one that refuses 1
+pub sign-is-told : (TurnsSign opInv 0x3f80_0000 (given 0 (Number (ofBits binary32 0xbf80_0000))) → ⊥) × (TurnsSign opInv 0x3f80_0000 (refusedWith 4) → ⊥)
+unfolding nanBits refusalBehind judged
+sign-is-told =
+    let g : Guards opInv 0xbf80_0000 0 (given 0 (Number (ofBits binary32 0xbf80_0000))) = numbered 0 0xbf80_0000 (lit< tt) refl refl in (
+      λ t. let z : _≡_ {A = ℕ} 0xbf80_0000 0x3f80_0000 = sym (g .word) ∙ t _ g .1 tt ∙ ap (turnedWord binary32) (g .word) in omega arith,
+      λ t. let z : _≡_ {A = ℕ} 0 4 = t _ g .0 in omega arith,
+    )
