@@ -184,10 +184,14 @@ pub fn inv(x: F32) -> Answer
     ensures bound { λ r. ⌜ (Answered r → InvBound binary32 (x .0) (wordOf r)) ⌝ }
     ensures sign { λ r. ⌜ TurnsSign opInv (x .0) r ⌝ }
 {
-    answered(
-        refusal::first(gate::of(number::INV), number::INV, x, 0),
-        x.inv(),
-    )
+    let refusal = refusal::first(gate::of(number::INV), number::INV, x, 0);
+    if refusal != 0 {
+        return refused(refusal);
+    }
+    // No NaN behind the gate, so its bits are a float's as they are.
+    Answer {
+        result: Guarded::Number(f32::from_bits(x.inv().0)),
+    }
 }
 
 pub fn recip(x: F32) -> Answer
