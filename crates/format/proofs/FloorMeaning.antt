@@ -1,11 +1,11 @@
 -- floor is the largest whole number not above its operand and ceil the smallest not below it, for |x| to 2 ^ 31 at binary32; a zero is +0
 -- from floor and -0 from ceil. Assumes nothing.
-use Prim.Native.Nat.{ℕ, zero, suc, _+_, _-_, _*_, _/_, _%_, _^_, _<_, _≤_, min, zero-le}
-use native.Mathlib.Nat.{add-comm, one-mul, le-trans, mul-le-mul-left, eq-of-mul-eq-mul-right, le-antisymm, lt-suc-self, eq-or-lt-of-le, le-div-iff-mul-le, div-mul-le-self, mul-le-mul-right, mul-lt-mul-of-pos-right, le-of-lt, lt-of-lt-of-le, lt-of-le-of-lt, lt-of-mul-lt-mul-right, lt-irrefl, le-refl, zero-mul, mul-one, add-zero, mul-pos, zero-lt-suc, mul-mod-left, mul-assoc, mul-div-cancel, div-lt-iff-lt-mul, le-mul-of-pos-right, sub-le}
+use Prim.Native.Nat.{ℕ, zero, suc, _+_, _-_, _*_, _/_, _^_, _<_, _≤_, min}
+use native.Mathlib.Nat.{add-comm, one-mul, le-trans, mul-le-mul-left, eq-of-mul-eq-mul-right, le-antisymm, lt-suc-self, eq-or-lt-of-le, le-div-iff-mul-le, div-mul-le-self, mul-le-mul-right, le-of-lt, lt-of-lt-of-le, lt-of-mul-lt-mul-right, lt-irrefl, le-refl, zero-mul, mul-one, add-zero, zero-lt-suc, mul-mod-left, mul-assoc, mul-div-cancel, div-lt-iff-lt-mul, le-mul-of-pos-right, sub-le}
 use native.Mathlib.Omega.{arith}
 use mathlib.Core.Path.{_≡_, refl, sym, ap, subst, _∙_}
 use mathlib.Core.Logic.{_⊎_, inl, inr}
-use mathlib.Core.Bool.{Bool, true, false, not, cond}
+use mathlib.Core.Bool.{Bool, true, false, not}
 use borrow.Author.Tests.{ltb-true, ltb-false, lt-ltb, le-ltb}
 use native.Mathlib.Numerals.{add-one}
 use lib.Dec.{ltb, lit<, lit≤}

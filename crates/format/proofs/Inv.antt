@@ -13,7 +13,7 @@ use lib.Pow.{pow-add}
 use lib.Ieee.{Format, binary32, binary64, emax, low, hid, top}
 use Rattle.format.specs.Fields.{width, negative, magnitude, signBit, infWord}
 use Rattle.format.specs.Sign.{turnedWord}
-use Rattle.format.specs.Value.{units, Finite}
+use Rattle.format.specs.Value.{units}
 use Rattle.format.specs.Estimates.{invMagic, invWord, Normal, Invertible, InvBound}
 use Rattle.format.proofs.Fields.{hid-pos, magnitude-lt, sign-and-magnitude}
 use Rattle.format.proofs.Sign.{turned-sign, turned-field, turned-units}
@@ -84,9 +84,6 @@ module _ (f : Format) (w : ℕ) (i : Invertible f w) where
         below = omega (arith, answer, magic-is f, magic-below f);
       }
 
-  pub inv-finite : Finite f (invWord f w)
-  inv-finite = normal-finite f (invWord f w) inv-normal
-
   pub inv-bound : InvBound f w (invWord f w)
   inv-bound =
       let e = w / hid f in
@@ -100,7 +97,7 @@ module _ (f : Format) (w : ℕ) (i : Invertible f w) where
       let k = one-squared f ∙ ap (λ (j : ℕ). hid f * hid f * j) p in
       let b = ratio (hid f) t u (units f w) (units f (invWord f w)) (2 ^ e) (2 ^ d) (2 ^ low f * 2 ^ low f) (add-sub-of-le l) x v k in
       record {
-        finite = inv-finite;
+        finite = normal-finite f (invWord f w) inv-normal;
         sign = unsigned-below f w (invWord f w) (invertible-normal .below) (inv-normal .below);
         least = b .0;
         most = b .1;
