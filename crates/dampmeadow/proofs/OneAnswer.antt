@@ -19,6 +19,8 @@ use Rattle.dampmeadow.proofs.dampmeadow_atan_norm.Reads as atan-norm
 use Rattle.dampmeadow.proofs.dampmeadow_atan_norm_guarded.Reads as atan-norm-guarded
 use Rattle.dampmeadow.proofs.dampmeadow_parts.Reads as parts-reads
 use Rattle.dampmeadow.proofs.dampmeadow_strip.Reads as strip-reads
+use Rattle.dampmeadow.proofs.dampmeadow_floor_marked.Reads as floor-marked
+use Rattle.dampmeadow.proofs.dampmeadow_ceil_marked.Reads as ceil-marked
 
 pub dampmeadow-words : (κs : Lfts 0) → OneAnswer (words.Post κs) (λ r x. r)
 dampmeadow-words κs = pinned _ (λ a r x p. p)
@@ -52,3 +54,9 @@ dampmeadow-parts κs = pinned (λ a. partsOf (a .0)) (λ a r x p. rw (p .0, p .1
 
 pub dampmeadow-strip : (κs : Lfts 4) → OneAnswer (strip-reads.Post κs) (λ r x. strip.seen r (now (x .1 .1 .1 .0)) (now (x .1 .1 .1 .1 .0)))
 dampmeadow-strip κs = pinned (λ a. strip.shows (a .0) (now (a .1 .0)) (now (a .1 .1 .0)) (now (a .1 .1 .1 .0)) (now (a .1 .1 .1 .1 .0))) (λ a r x p. strip.strips p)
+
+pub dampmeadow-floor-marked : (κs : Lfts 0) → OneAnswer (floor-marked.Post κs) (λ r x. r)
+dampmeadow-floor-marked κs = pinned _ (λ a r x p. p)
+
+pub dampmeadow-ceil-marked : (κs : Lfts 0) → OneAnswer (ceil-marked.Post κs) (λ r x. r)
+dampmeadow-ceil-marked κs = pinned _ (λ a r x p. p)

@@ -2,14 +2,18 @@
 ghost use mathlib.Core.Path.{_≡_};
 ghost use lib.Ieee.{binary32};
 ghost use Rattle.format.specs.Parts.{truncWord, fractWord};
+ghost use Rattle.format.specs.Sign.{turnedWord};
+ghost use Rattle.format.specs.Whole.{floorWord, ceilWord};
 ghost use Rattle.float.specs.Engine.{ieee};
 ghost use Rattle.float.specs.Atan.{atanNormWord};
+ghost use Rattle.float.specs.Mark.{markOf, numberOf};
 ghost use Rattle.guard.specs.Operations.{opAtan, opTrunc};
 ghost use Rattle.guard.specs.Refusals.{refusalOf};
-ghost use Rattle.frame.specs.Words.{answerWords, wordBeside, wordsOf};
+ghost use Rattle.frame.specs.Words.{packed, answerWords, wordBeside, wordsOf};
 ghost use Rattle.frame.specs.Frame.{returned, left};
 ghost use Rattle.strip.specs.Strip.{Strips};
 use float::F32;
+use float::cast::Marked;
 use frame::words;
 
 // What a frame with this operation and these two words answers: the refusal number in the high 32
@@ -76,4 +80,28 @@ pub extern "C" fn dampmeadow_parts(a: u32, whole: &mut u32, rest: &mut u32) -> u
     *whole = answer.word();
     *rest = answer.second_word();
     answer.refusal()
+}
+
+// Raw floor, with the mark of the cast to an integer that it makes: the mark's number in the high 32
+// bits and the word in the low 32.
+#[no_mangle]
+pub extern "C" fn dampmeadow_floor_marked(a: u32) -> u64
+    ensures { λ r. ⌜ r ≡ packed (numberOf (markOf a)) (floorWord binary32 a) ⌝ }
+{
+    with_mark(F32(a).floor_marked())
+}
+
+// Raw ceil, in the same way. Its cast is of the number with its sign turned.
+#[no_mangle]
+pub extern "C" fn dampmeadow_ceil_marked(a: u32) -> u64
+    ensures { λ r. ⌜ r ≡ packed (numberOf (markOf (turnedWord binary32 a))) (ceilWord binary32 a) ⌝ }
+{
+    with_mark(F32(a).ceil_marked())
+}
+
+fn with_mark(marked: Marked) -> u64
+    ensures { λ r. ⌜ r ≡ packed (numberOf (marked .mark)) (marked .number .0) ⌝ }
+{
+    let mark = marked.mark;
+    mark.number() as u64 * 0x1_0000_0000 + marked.number.0 as u64
 }

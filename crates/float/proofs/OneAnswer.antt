@@ -1,7 +1,14 @@
 -- Any two answers that a statement of this crate allows coincide: an entry for every public function, over the statement that the
 -- check itself reads off its contract. Of an F32 the word is all there is to see. Assumes nothing.
+use Prim.Native.Nat.{ℕ}
 use contract.Lifetimes.{Lfts}
+use lib.Ieee.{binary32, ofBits, toSigned}
+use Rattle.format.specs.Sign.{turnedWord}
+use Rattle.format.specs.Whole.{floorWord, ceilWord}
 use Rattle.format.proofs.Pinned.{OneAnswer, pinned}
+use Rattle.float.specs.declared.cast.Mark.{Mark}
+use Rattle.float.specs.declared.cast.Marked.{Marked}
+use Rattle.float.specs.Mark.{markOf}
 use Rattle.float.proofs.F32.from_bits.Reads as from-bits
 use Rattle.float.proofs.F32.to_bits.Reads as to-bits
 use Rattle.float.proofs.F32.value.Reads as value
@@ -16,11 +23,14 @@ use Rattle.float.proofs.F32.exponent_clamped.Reads as exponent-clamped
 use Rattle.float.proofs.F32.set_exponent.Reads as set-exponent
 use Rattle.float.proofs.F32.is_integer.Reads as is-integer
 use Rattle.float.proofs.F32.is_even.Reads as is-even
+use Rattle.float.proofs.F32.cast_marked.Reads as cast-marked
 use Rattle.float.proofs.F32.to_i32.Reads as to-i32
 use Rattle.float.proofs.F32.trunc.Reads as trunc
 use Rattle.float.proofs.F32.fract.Reads as fract
 use Rattle.float.proofs.F32.floor.Reads as floor
+use Rattle.float.proofs.F32.floor_marked.Reads as floor-marked
 use Rattle.float.proofs.F32.ceil.Reads as ceil
+use Rattle.float.proofs.F32.ceil_marked.Reads as ceil-marked
 use Rattle.float.proofs.F32.round.Reads as round
 use Rattle.float.proofs.F32.abs.Reads as abs
 use Rattle.float.proofs.F32.copysign.Reads as copysign
@@ -44,6 +54,7 @@ use Rattle.float.proofs.F32.acos.Reads as acos
 use Rattle.float.proofs.F32.tan.Reads as tan
 use Rattle.float.proofs.F32.rem_euclid.Reads as rem-euclid
 use Rattle.float.proofs.F32.div_euclid.Reads as div-euclid
+use Rattle.float.proofs.cast.Mark.number.Reads as mark-number
 use Rattle.float.proofs.cast.from_i32.Reads as from-i32
 use Rattle.float.proofs.cast.from_u32.Reads as from-u32
 use Rattle.float.proofs.cast.bits_of_i32.Reads as bits-of-i32
@@ -57,6 +68,9 @@ use Rattle.float.proofs.steps.abs_of.Reads as abs-of
 use Rattle.float.proofs.steps.floor_of.Reads as floor-of
 use Rattle.float.proofs.steps.is_at.Reads as is-at
 use Rattle.float.proofs.cos.of_word.Reads as cos-of-word-reads
+
+abbrev marked : ℕ → Mark → Marked
+marked w m = record { number = record { 0 = w }; mark = m }
 
 module _ (κs : Lfts 0) where
   -- ---- the number type and its two conversions
@@ -104,6 +118,12 @@ module _ (κs : Lfts 0) where
   F32-is-even = pinned _ (λ a r x p. p)
 
   -- ---- the casts
+  pub Mark-number : OneAnswer (mark-number.Post κs) (λ r x. r)
+  Mark-number = pinned _ (λ a r x p. p)
+
+  pub F32-cast-marked : OneAnswer (cast-marked.Post κs) (λ r x. r)
+  F32-cast-marked = pinned (λ a. record { value = toSigned 31 (ofBits binary32 (a .0 .0)); mark = markOf (a .0 .0) }) (λ a r x p. rw (p .0, p .1 .0))
+
   pub F32-to-i32 : OneAnswer (to-i32.Post κs) (λ r x. r)
   F32-to-i32 = pinned _ (λ a r x p. p)
 
@@ -157,8 +177,14 @@ module _ (κs : Lfts 0) where
   pub F32-floor : OneAnswer (floor.Post κs) (λ r x. r .0)
   F32-floor = pinned _ (λ a r x p. p .0)
 
+  pub F32-floor-marked : OneAnswer (floor-marked.Post κs) (λ r x. r)
+  F32-floor-marked = pinned (λ a. marked (floorWord binary32 (a .0 .0)) (markOf (a .0 .0))) (λ a r x p. rw (p .0, p .1 .1))
+
   pub F32-ceil : OneAnswer (ceil.Post κs) (λ r x. r .0)
   F32-ceil = pinned _ (λ a r x p. p .0)
+
+  pub F32-ceil-marked : OneAnswer (ceil-marked.Post κs) (λ r x. r)
+  F32-ceil-marked = pinned (λ a. marked (ceilWord binary32 (a .0 .0)) (markOf (turnedWord binary32 (a .0 .0)))) (λ a r x p. rw (p .0, p .1 .1))
 
   pub F32-round : OneAnswer (round.Post κs) (λ r x. r .0)
   F32-round = pinned _ (λ a r x p. p .0)

@@ -61,7 +61,7 @@ in-range (suc x) t h k =
     ap (λ (c : ℕ). topped t / 2 ^ c) (let e : 158 - suc x ≡ 157 - x = omega arith in e)
     ∙ div-same (topped t) (2 ^ (157 - x)) ((2 ^ 23 + t) * 2 ^ x) (2 ^ 149) (pow-pos (157 - x)) (lit< tt) (same-weight (2 ^ 23 + t) x (omega arith))
 
-past-range : (x t : ℕ) → 158 ≤ x → 2 ^ 31 ≤ unitsAt binary32 x t / 2 ^ 149
+pub past-range : (x t : ℕ) → 158 ≤ x → 2 ^ 31 ≤ unitsAt binary32 x t / 2 ^ 149
 past-range zero t h = absurd (let z : ⊥ = omega arith in z)
 past-range (suc x) t h = div-mono (2 ^ 180) (2 ^ 149) ((2 ^ 23 + t) * 2 ^ x) (2 ^ 149) (lit< tt) (lit< tt) (mul-le-mul-right (2 ^ 149) (le-trans (mul-le-mul-left (2 ^ 23) (pow-mono {i = 157} {j = x} (omega arith))) (mul-le-mul-right (2 ^ x) (omega arith))))
 

@@ -12,6 +12,7 @@ pub mod Whole
 pub mod PartsMeaning
 pub mod FloorMeaning
 pub mod RoundMeaning
+pub mod CastMeaning
 pub mod Pinned
 pub mod Order
 pub mod Normal

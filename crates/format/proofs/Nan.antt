@@ -1,13 +1,15 @@
--- Which words are read as the one NaN of `lib.Ieee` and which as its infinities, and what is written for the NaN. Assumes nothing.
+-- Which words are read as the one NaN of `lib.Ieee` and which as its infinities, and what is written for the NaN; a finite word is none. Assumes nothing.
 use Prim.Native.Nat.{ℕ, zero, suc, _+_, _*_}
+use native.Mathlib.Nat.{ne-of-lt}
 use native.Mathlib.Omega.{arith}
 use mathlib.Core.Path.{_≡_, refl, sym, subst, _∙_}
 use mathlib.Core.Bool.{Bool, true, false, not, _&&_}
-use borrow.Author.Tests.{eq-eqb, not-false}
+use borrow.Author.Tests.{eq-eqb, ne-eqb, not-false}
 use lib.Dec.{T, eqb}
 use lib.Ieee.{Format, Float, nan, inf, fin, emax, ones, isNan, nanBits, ofFields, ofBits, toBits}
 use lib.Ieee.Bits.{nanBits-is}
 use Rattle.format.specs.Fields.{negative, exponent, fraction, nanWord}
+use Rattle.format.specs.Value.{Finite}
 
 only-nan : (x : Float) → isNan x ≡ true → x ≡ nan
 unfolding isNan
@@ -39,3 +41,7 @@ unfolding ofBits nanBits
 inf-read f w e n =
     at-ones f (negative f w) (exponent f w) (fraction f w) e
     (no-digits (eqb (exponent f w) (ones f)) (eqb (fraction f w) 0) (eq-eqb (exponent f w) (ones f) e) n)
+
+pub finite-number : (f : Format) (w : ℕ) → Finite f w → nanBits f w ≡ false
+unfolding nanBits
+finite-number f w h = rw (ne-eqb (exponent f w) (ones f) (ne-of-lt h))

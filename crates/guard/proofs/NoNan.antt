@@ -20,14 +20,14 @@ use Rattle.format.specs.Meaning.{Under32, To31, Under23}
 use Rattle.format.specs.Estimates.{Invertible}
 use Rattle.format.proofs.Classes.{finite-of, above-small, normal-of}
 use Rattle.format.proofs.Fields.{magnitude-lt}
-use Rattle.format.proofs.Nan.{nan-read, nan-written}
+use Rattle.format.proofs.Nan.{nan-read, nan-written, finite-number}
 use Rattle.float.specs.Engine.{ieee}
 use Rattle.float.specs.Atan.{atanNormWord}
 use Rattle.float.specs.Cos.{cosWord}
 use Rattle.float.specs.Powf.{productWord}
 use Rattle.float.specs.DivEuclid.{quotientWord}
 use Rattle.raw.specs.Raw.{Kernel, none, kernels}
-use Rattle.sizes.proofs.Bitwise.{finite-number, trunc-number, fract-number, floor-number, ceil-number, round-number, abs-number, copysign-number, signum-number, sqrt-number, invsqrt-number, inv-number}
+use Rattle.sizes.proofs.Bitwise.{trunc-number, fract-number, floor-number, ceil-number, round-number, abs-number, copysign-number, signum-number, sqrt-number, invsqrt-number, inv-number}
 use Rattle.sizes.proofs.Recip.{recip-number}
 use Rattle.sizes.proofs.Exp.{exp-number}
 use Rattle.sizes.proofs.Ln.{ln-number}

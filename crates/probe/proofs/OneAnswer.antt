@@ -2,6 +2,7 @@
 use contract.Lifetimes.{Lfts}
 use Rattle.format.proofs.Pinned.{OneAnswer, pinned}
 use Rattle.probe.proofs.probe_to_i32.Reads as to-i32
+use Rattle.probe.proofs.probe_cast_marked.Reads as cast-marked
 use Rattle.probe.proofs.probe_from_i32.Reads as from-i32
 use Rattle.probe.proofs.probe_from_u32.Reads as from-u32
 use Rattle.probe.proofs.probe_value.Reads as value
@@ -16,6 +17,9 @@ use Rattle.probe.proofs.probe_constant.Reads as constant
 module _ (κs : Lfts 0) where
   pub probe-to-i32 : OneAnswer (to-i32.Post κs) (λ r x. r)
   probe-to-i32 = pinned _ (λ a r x p. p)
+
+  pub probe-cast-marked : OneAnswer (cast-marked.Post κs) (λ r x. r)
+  probe-cast-marked = pinned _ (λ a r x p. p)
 
   pub probe-from-i32 : OneAnswer (from-i32.Post κs) (λ r x. r)
   probe-from-i32 = pinned _ (λ a r x p. p)

@@ -2,13 +2,14 @@
 // to itself and no frame reaches. No crate stands on it.
 ghost use mathlib.Core.Path.{_≡_};
 ghost use mathlib.Core.Bool.{Bool, cond};
-ghost use Prim.Native.Nat.{_+_, _%_, _^_};
+ghost use Prim.Native.Nat.{_+_, _*_, _%_, _^_};
 ghost use lib.IntN.{pos};
 ghost use lib.Ieee.{binary32, ofBits, toBits, ofInt, toSigned};
 ghost use mir.Val.{ofZ, toZ};
 ghost use mir.Syntax.{w32};
 ghost use Rattle.format.specs.Fields.{exponent, magnitude};
 ghost use Rattle.format.specs.Exponent.{exponentValue, setExponentWord, isIntegerWord, isEvenWord};
+ghost use Rattle.float.specs.Mark.{markOf, numberOf};
 ghost use lib.ListN.{getD};
 ghost use Rattle.probe.specs.Constants.{constants};
 use float::F32;
@@ -19,6 +20,16 @@ pub extern "C" fn probe_to_i32(a: u32) -> i32
     ensures { λ r. ⌜ r ≡ toSigned 31 (ofBits binary32 a) ⌝ }
 {
     F32(a).to_i32()
+}
+
+// The mark's number in the high 32 bits, and the integer's word in the low 32.
+#[no_mangle]
+pub extern "C" fn probe_cast_marked(a: u32) -> u64
+    ensures { λ r. ⌜ r ≡ numberOf (markOf a) * 2 ^ 32 + ofZ w32 (toSigned 31 (ofBits binary32 a)) ⌝ }
+{
+    let casted = F32(a).cast_marked();
+    let mark = casted.mark;
+    mark.number() as u64 * 0x1_0000_0000 + float::cast::bits_of_i32(casted.value) as u64
 }
 
 #[no_mangle]

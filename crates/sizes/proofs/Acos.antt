@@ -11,6 +11,7 @@ use lib.Ieee.{binary32, lt, eq, nanBits, ofBits, toBits}
 use lib.Ieee.Fits.{add-fits, div-fits}
 use Rattle.format.specs.Fields.{magnitude}
 use Rattle.format.specs.Estimates.{sqrtWord}
+use Rattle.format.proofs.Nan.{finite-number}
 use Rattle.format.proofs.Order.{either}
 use Rattle.format.proofs.AtLeastZero.{up-to-infinity}
 use Rattle.float.specs.Engine.{ieee}
@@ -21,7 +22,6 @@ use Rattle.float.specs.Acos.{slopeWord, acosWord}
 use Rattle.sizes.proofs.Size.{AtMost, div-at-most}
 use Rattle.sizes.proofs.Words.{constant, word-at-most, word-at-least, at-most-word, number-word}
 use Rattle.sizes.proofs.Numbers.{add-number}
-use Rattle.sizes.proofs.Bitwise.{finite-number}
 use Rattle.sizes.proofs.Quotient.{read-number}
 use Rattle.sizes.proofs.Atan.{atan-number}
 use Rattle.sizes.proofs.Asin.{Rest, rest-is}

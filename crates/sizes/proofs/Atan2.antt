@@ -11,6 +11,7 @@ use lib.Ieee.{Float, binary32, unlike, sub, mul, lt, isNan, nanBits, ofBits, toB
 use lib.Ieee.Fits.{mul-fits, div-fits}
 use lib.Ieee.Scale.{finite}
 use Rattle.format.specs.Fields.{negative, magnitude}
+use Rattle.format.proofs.Nan.{finite-number}
 use Rattle.float.specs.Engine.{ieee, absOf}
 use Rattle.float.specs.Atan.{signOr}
 use Rattle.float.specs.Atan2.{offset, ratio, quarters, withinHalf, atan2Word}
@@ -18,7 +19,6 @@ use Rattle.float.proofs.Signs.{offset-one-of}
 use Rattle.sizes.proofs.Size.{AtMost, AtLeast, NotNegative, mul-at-most, mul-at-least, add-at-most, square-not-negative}
 use Rattle.sizes.proofs.Words.{constant, word-at-most, word-at-least, at-most-number, number-word, abs-at-most}
 use Rattle.sizes.proofs.Numbers.{add-number-left, sub-number, div-number}
-use Rattle.sizes.proofs.Bitwise.{finite-number}
 use Rattle.sizes.proofs.Quotient.{abs-not-negative, bottom, by-first, by-last, sign-or-number, read-number, half-turns}
 
 -- ---- the steps after the quotient

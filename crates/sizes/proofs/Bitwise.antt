@@ -1,19 +1,19 @@
 -- The kernels that work on a word's bits answer with a number, not a NaN, wherever their meaning is stated, and sqrt from 0 up to the infinity.
 -- Assumes nothing.
 use Prim.Native.Nat.{ℕ, _+_, _/_, _%_, _^_, _≤_, _<_}
-use native.Mathlib.Nat.{ne-of-lt, le-of-lt}
+use native.Mathlib.Nat.{le-of-lt}
 use native.Mathlib.Omega.{arith}
 use mathlib.Core.Path.{_≡_}
 use mathlib.Core.Bool.{false}
-use borrow.Author.Tests.{ne-eqb}
-use lib.Ieee.{Format, binary32, nanBits, ones}
-use Rattle.format.specs.Fields.{magnitude, exponent, oneWord}
+use lib.Ieee.{binary32, nanBits}
+use Rattle.format.specs.Fields.{magnitude, oneWord}
 use Rattle.format.specs.Value.{Finite}
 use Rattle.format.specs.Sign.{absWord, copysignWord, signumWord}
 use Rattle.format.specs.Parts.{truncWord, fractWord}
 use Rattle.format.specs.Whole.{floorWord, ceilWord, roundWord}
 use Rattle.format.specs.Meaning.{Under32, To31, Under23}
 use Rattle.format.specs.Estimates.{sqrtWord, invWord, invsqrtWord, Normal, Invertible}
+use Rattle.format.proofs.Nan.{finite-number}
 use Rattle.format.proofs.Sign.{abs-is, copysign-is}
 use Rattle.format.proofs.PartsMeaning.{trunc-under32, fract-under32}
 use Rattle.format.proofs.FloorMeaning.{floor-is, ceil-is}
@@ -21,10 +21,6 @@ use Rattle.format.proofs.RoundMeaning.{round-is-nearest}
 use Rattle.format.proofs.Inv.{inv-bound-by-size}
 use Rattle.format.proofs.AtLeastZero.{up-to-infinity}
 use Rattle.format.proofs.Invsqrt.{invsqrt-finite}
-
-pub finite-number : (f : Format) (w : ℕ) → Finite f w → nanBits f w ≡ false
-unfolding nanBits
-finite-number f w h = rw (ne-eqb (exponent f w) (ones f) (ne-of-lt h))
 
 -- ---- the whole and fraction parts
 

@@ -21,12 +21,12 @@ use mir.Syntax.{w32}
 use mir.Val.{ofZ}
 use Rattle.format.specs.Fields.{negative, magnitude, exponent, fraction}
 use Rattle.format.specs.Value.{unitsAt, units, Finite}
+use Rattle.format.proofs.Nan.{finite-number}
 use Rattle.format.proofs.Value.{word-value}
 use Rattle.format.proofs.Order.{either}
 use Rattle.float.specs.Powi.{Work, multiplied, squared, ended, works, start, early, isZero, isNearOne, isPast, isBelow, infinite, squaringWord, powiWord}
 use Rattle.sizes.proofs.Size.{AtMost, AtLeast, round-at-least, mul-at-most, mul-at-least, div-at-most}
 use Rattle.sizes.proofs.Words.{at-most-number, at-least-number, number-word}
-use Rattle.sizes.proofs.Bitwise.{finite-number}
 
 -- ---- the two sides of 1, 0x3f80_0000: at least 1 in size, an infinity too, and finite and at most 1
 

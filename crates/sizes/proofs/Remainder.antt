@@ -18,6 +18,7 @@ use Rattle.format.specs.Fields.{negative, magnitude, infWord}
 use Rattle.format.specs.Classes.{isBelowZero}
 use Rattle.format.specs.Sign.{absWord, withSign}
 use Rattle.format.specs.Value.{units, Finite}
+use Rattle.format.proofs.Nan.{finite-number}
 use Rattle.format.proofs.Classes.{under-infinity}
 use Rattle.format.proofs.Sign.{own-sign, abs-is}
 use Rattle.format.proofs.AtLeastZero.{fromZeroUp, at-least-zero}
@@ -25,7 +26,6 @@ use Rattle.float.specs.Rounded.{_⊕_, number}
 use Rattle.float.specs.RemEuclid.{remainder, isNotBelow, remEuclidWord, LeftBy}
 use Rattle.sizes.proofs.Size.{AtMost, AtLeast, NotNegative, round-at-most, round-not-negative, without-sign, not-zero}
 use Rattle.sizes.proofs.Words.{own-at-most, word-at-most, word-at-least, at-most-number, at-most-word, sign-word}
-use Rattle.sizes.proofs.Bitwise.{finite-number}
 
 -- ---- what is no more than a divisor
 

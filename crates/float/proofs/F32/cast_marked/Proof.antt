@@ -1,4 +1,4 @@
--- `float::F32::to_i32` meets its contract: up to 2 ^ 31 the whole part is one shift of the significand, and past it the cast is clipped.
+-- `float::F32::cast_marked` meets its contract: up to 2 ^ 31 the whole part is one shift of the significand, and past it the cast is clipped.
 -- Assumes nothing.
 use borrow.Author.Needs.{needs}
 use mathlib.Core.Path.{_≡_, sym, ap, subst, _∙_}
@@ -12,8 +12,9 @@ use mir.Facts.{toZ-pos}
 use Rattle.format.specs.Fields.{exponent}
 use Rattle.format.proofs.Cast.{Casts, shifted, shifted-lt, range-casts}
 use Rattle.float.proofs.Twos.{negated}
-use Rattle.float.proofs.F32.to_i32.Statement.{statement}
-use Rattle.float.proofs.F32.to_i32.Tie as tie
+use Rattle.float.proofs.Mark.{told}
+use Rattle.float.proofs.F32.cast_marked.Statement.{statement}
+use Rattle.float.proofs.F32.cast_marked.Tie as tie
 
 -- the whole part as the code forms it, by the count of places that it found
 abbrev part : ℕ → ℕ → ℕ
@@ -30,23 +31,22 @@ part-is c =
 part-lt : (c : tie.After-below-64) → part (c .before .before .before .before .args .self .0) (c .below-64 .result) < 2 ^ 31
 part-lt c = subst (λ (n : ℕ). n < 2 ^ 31) (sym (part-is c)) (shifted-lt (c .before .before .before .before .args .self .0) (field-le c))
 
-within : (c : tie.After-is-sign-negative) → let w = c .before .before .before .before .before .args .self .0 in
-    let n = part w (c .before .below-64 .result) in
+inside : (c : tie.After-is-sign-negative) → let w = c .before .before .before .before .before .before .args .self .0 in
+    let n = part w (c .before .before .below-64 .result) in
     Casts w (cond (c .is-sign-negative .result) (negℤ (pos n)) (pos n))
-within c =
-    let w = c .before .before .before .before .before .args .self .0 in
-    range-casts w (field-le (c .before))
+inside c =
+    let w = c .before .before .before .before .before .before .args .self .0 in
+    range-casts w (field-le (c .before .before))
     ∙ ap (λ (s : Bool). cond s (negℤ (pos (shifted w))) (pos (shifted w))) (sym (c .is-sign-negative .ensures))
-    ∙ ap (λ (n : ℕ). cond (c .is-sign-negative .result) (negℤ (pos n)) (pos n)) (sym (part-is (c .before)))
+    ∙ ap (λ (n : ℕ). cond (c .is-sign-negative .result) (negℤ (pos n)) (pos n)) (sym (part-is (c .before .before)))
 
-pub to-i32-spec : {M : Type 1} → statement M
-to-i32-spec =
-    tie.close
-    (tie.spec
+pub cast-marked-spec : {M : Type 1} → statement M
+cast-marked-spec =
+    let met = tie.spec
     (λ c κs. search needs)
     (λ c. search needs)
     (λ c κs. search needs)
-    (λ c. search needs)
+    (λ c. told (c .before .before .before .args .self .0) (c .clipped .ensures .0) (c .clipped .ensures .1))
     (λ c. search needs)
     (λ c. search needs)
     (λ c. search needs)
@@ -57,6 +57,14 @@ to-i32-spec =
     (λ c. search needs)
     (λ c. record { sfits = part-lt c })
     (λ c κs. search needs)
-    (λ c. negated _ (part-lt (c .before .before)) .subs)
-    (λ c. negated _ (part-lt (c .before .before)) .is ∙ sym (within (c .before) ∙ rw (c .if2 .taken)))
-    (λ c. toZ-pos w32 (part-lt (c .before .before)) ∙ sym (within (c .before) ∙ rw (c .if2 .left))))
+    (λ c κs. search needs)
+    (λ c. negated _ (part-lt (c .before .before .before)) .subs)
+    (λ c.
+    told (c .before .before .before .before .before .before .before .args .self .0)
+    (negated _ (part-lt (c .before .before .before)) .is ∙ sym (inside (c .before) ∙ rw (c .if2 .taken)))
+    (c .before .before .within .ensures))
+    (λ c.
+    told (c .before .before .before .before .before .before .before .args .self .0)
+    (toZ-pos w32 (part-lt (c .before .before .before)) ∙ sym (inside (c .before) ∙ rw (c .if2 .left)))
+    (c .before .before .within .ensures)) in
+    tie.close met

@@ -1,0 +1,181 @@
+-- What a cast to an integer did to a number: of a number within the range the integer is its whole part, and past it the last integer on
+-- its side. Which words are within it and which are whole, by the tests of their fields. Assumes nothing.
+use Prim.Native.Nat.{ℕ, zero, suc, _+_, _-_, _*_, _/_, _%_, _^_, _<_, _≤_, min}
+use native.Mathlib.Nat.{zero-mul, zero-div, mul-pos, zero-lt-suc, mod-eq-of-lt, div-mul-le-self, div-add-mod', le-trans, lt-of-lt-of-le, le-of-lt, mul-le-mul-right, mul-le-mul-left, le-div-iff-mul-le, div-lt-iff-lt-mul, add-zero, sub-le}
+use native.Mathlib.Omega.{arith}
+use mathlib.Core.Path.{_≡_, refl, sym, ap, subst, _∙_}
+use mathlib.Core.Bool.{Bool, true, false, cond, _||_, true≢false}
+use borrow.Author.Tests.{ltb-true, ltb-false, lt-ltb, le-ltb, eqb-true, eqb-false, ne-eqb, eq-eqb}
+use lib.Dec.{ltb, eqb, lit<, lit≤}
+use lib.IntN.{ℤ, pos, negsuc, negℤ, natAbs}
+use lib.Pow.{pow-pos, pow-add, pow-mono, shl-lt}
+use lib.Ieee.{Format, binary32, Float, inf, prec, emax, low, hid, ones, top, ofBits, nanBits, toSigned}
+use lib.Ieee.Fits.{two}
+use Rattle.format.specs.Fields.{negative, exponent, fraction, signBit}
+use Rattle.format.specs.Exponent.{places, isIntegerWord}
+use Rattle.format.specs.Value.{unitsAt, units, Finite}
+use Rattle.format.specs.Classes.{isEndless, isZero}
+use Rattle.format.specs.Parts.{belowPoint, fractWord}
+use Rattle.format.specs.Cast.{isWhole, lastSize, isPast, signed, IsKept, IsCut, IsClipped, IsNothing}
+use Rattle.format.proofs.Fields.{fraction-lt, three-fields}
+use Rattle.format.proofs.Nan.{nan-read, inf-read}
+use Rattle.format.proofs.AtLeastZero.{units-zero}
+use Rattle.format.proofs.Classes.{finite-of}
+use Rattle.format.proofs.Cast.{held, word-cast, past-range}
+use Rattle.format.proofs.Parts.{moved-up, below-lt, fraction-word}
+use Rattle.format.proofs.PartsMeaning.{InWidth, full, under-one, fract-is}
+
+-- ---- whole or not
+
+no-units-more : (b k : ℕ) → eqb (b * 2 ^ k) 0 ≡ eqb b 0
+no-units-more zero k = rw (zero-mul (2 ^ k))
+no-units-more (suc b) k = ne-eqb (suc b * 2 ^ k) 0 (λ e. omega (arith, mul-pos (zero-lt-suc b) (pow-pos k))) ∙ sym (ne-eqb (suc b) 0 (λ e. omega arith))
+
+-- below 1 a zero alone is whole
+pub whole-below-one : (f : Format) (w : ℕ) → exponent f w < emax f → isWhole f w ≡ isZero f w
+whole-below-one f w h =
+    ap (λ (n : ℕ). eqb n 0) (mod-eq-of-lt (under-one f (exponent f w) (fraction f w) h (fraction-lt f w))) ∙ sym (units-zero f w)
+
+-- what is below the point, by the word's bits
+rest-is : (f : Format) (w : ℕ) → emax f ≤ exponent f w → InWidth f w → units f w % 2 ^ low f ≡ belowPoint f w * 2 ^ places f w * 2 ^ (emax f - 1)
+rest-is f w e h =
+    sym (fract-is f w h .rest)
+    ∙ ap (units f) (rw (le-ltb (exponent f w) (emax f) e))
+    ∙ fraction-word f (negative f w) (belowPoint f w * 2 ^ places f w) (below-lt f w) .count
+
+-- from 1 on a number is whole where micromath's test says so, as long as a count of places is not taken down by the word's width
+pub whole-from-one : (f : Format) (w : ℕ) → emax f ≤ exponent f w → InWidth f w → isWhole f w ≡ isIntegerWord f w
+whole-from-one f w e h =
+    ap (λ (n : ℕ). eqb n 0) (rest-is f w e h)
+    ∙ no-units-more (belowPoint f w * 2 ^ places f w) (emax f - 1)
+    ∙ ap (λ (n : ℕ). eqb n 0) (sym (moved-up w (places f w) (prec f - 1)))
+
+-- ---- within the range or past it, by the exponent field
+
+part-within : (f : Format) (h x t : ℕ) → t < hid f → x < emax f + h → unitsAt f x t / 2 ^ low f < 2 ^ h
+part-within f h x t k l = div-lt-iff-lt-mul (pow-pos (low f)) .1 (go x l)
+  where
+    go : (x : ℕ) → x < emax f + h → unitsAt f x t < 2 ^ h * 2 ^ low f
+    go zero l = lt-of-lt-of-le k (subst (λ (n : ℕ). hid f ≤ n) (pow-add 2 h (low f)) (pow-mono (omega (arith, two f))))
+    go (suc y) l = lt-of-lt-of-le (shl-lt (prec f) y (full f t k)) (subst (λ (n : ℕ). 2 ^ (prec f + y) ≤ n) (pow-add 2 h (low f)) (pow-mono (omega (arith, two f))))
+
+not-endless : (f : Format) (w : ℕ) → Finite f w → isEndless f w ≡ false
+not-endless f w p = ne-eqb (exponent f w) (ones f) (λ e. omega arith)
+
+pub within-range : (w : ℕ) → exponent binary32 w ≤ 157 → isPast binary32 31 w ≡ false
+within-range w h =
+    let n-lt : units binary32 w / 2 ^ 149 < 2 ^ 31 = part-within binary32 31 (exponent binary32 w) (fraction binary32 w) (fraction-lt binary32 w) (omega arith) in
+    rw (not-endless binary32 w (omega arith)) (under (negative binary32 w) (units binary32 w / 2 ^ 149) n-lt)
+  where
+    under : (s : Bool) (n : ℕ) → n < 2 ^ 31 → ltb (lastSize 31 s) n ≡ false
+    under true n k = le-ltb (2 ^ 31) n (le-of-lt k)
+    under false n k = le-ltb (2 ^ 31 - 1) n (omega arith)
+
+-- from the field of 2 ^ 31 on every word is past it, but for -2 ^ 31 itself
+part-past : (x t : ℕ) → 158 ≤ x → (x * 2 ^ 23 + t ≡ 0x4f00_0000 → ⊥) → 2 ^ 31 < unitsAt binary32 x t / 2 ^ 149
+part-past zero t h n = absurd (let z : ⊥ = omega arith in z)
+part-past (suc y) t h n =
+    le-div-iff-mul-le (lit< tt) .1
+    (go (ltb y 158) refl)
+  where
+    go : (b : Bool) → ltb y 158 ≡ b → suc (2 ^ 31) * 2 ^ 149 ≤ (2 ^ 23 + t) * 2 ^ y
+    go true e = le-trans {m = (2 ^ 23 + 1) * 2 ^ 157} (lit≤ tt) (le-trans (mul-le-mul-left (2 ^ 23 + 1) (pow-mono {i = 157} {j = y} (omega arith))) (mul-le-mul-right (2 ^ y) (omega (arith, ltb-true y 158 e))))
+    go false e = le-trans {m = 2 ^ 23 * 2 ^ 158} (lit≤ tt) (le-trans (mul-le-mul-left (2 ^ 23) (pow-mono (ltb-false y 158 e))) (mul-le-mul-right (2 ^ y) (omega arith)))
+
+or-true : (b : Bool) → (b || true) ≡ true
+or-true true = refl
+or-true false = refl
+
+pub past-high : (w : ℕ) → 158 ≤ exponent binary32 w → negative binary32 w ≡ false → isPast binary32 31 w ≡ true
+past-high w h s = rw (s, lt-ltb (2 ^ 31 - 1) _ (past-range (exponent binary32 w) (fraction binary32 w) h)) (or-true (isEndless binary32 w))
+
+pub past-low : (w : ℕ) → w < 2 ^ 32 → 158 ≤ exponent binary32 w → negative binary32 w ≡ true → (w ≡ 0xcf00_0000 → ⊥) → isPast binary32 31 w ≡ true
+past-low w l h s n =
+    rw (s, lt-ltb (2 ^ 31) _ (part-past (exponent binary32 w) (fraction binary32 w) h (λ m. n (sym (three-fields binary32 w l) ∙ rw (s, m))))) (or-true (isEndless binary32 w))
+
+-- ---- the integer
+
+nan-casts : (f : Format) (h w : ℕ) → nanBits f w ≡ true → toSigned h (ofBits f w) ≡ pos 0
+unfolding toSigned
+nan-casts f h w e = rw (nan-read f w e)
+
+inf-casts : (f : Format) (h w : ℕ) → isEndless f w ≡ true → nanBits f w ≡ false → toSigned h (ofBits f w) ≡ signed (negative f w) (lastSize h (negative f w))
+unfolding toSigned
+inf-casts f h w e n = rw (inf-read f w (eqb-true _ _ e) n) (go (negative f w))
+  where
+    go : (s : Bool) → toSigned h (inf s) ≡ signed s (lastSize h s)
+    go true = refl
+    go false = refl
+
+held-is : (h : ℕ) (s : Bool) (n : ℕ) → held h s n ≡ signed s (min n (lastSize h s))
+held-is h true n = refl
+held-is h false n = refl
+
+size-is : (s : Bool) (n : ℕ) → natAbs (signed s n) ≡ n
+size-is false n = refl
+size-is true zero = refl
+size-is true (suc n) = refl
+
+pub nothing-told : (f : Format) (h w : ℕ) → nanBits f w ≡ true → IsNothing f w (toSigned h (ofBits f w))
+nothing-told f h w e = record { nan = e; zero = nan-casts f h w e }
+
+module _ (f : Format) (h w : ℕ) where
+  pub clipped-told : nanBits f w ≡ false → isPast f h w ≡ true → IsClipped f h (negative f w) w (toSigned h (ofBits f w))
+  clipped-told n p = go (isEndless f w) refl
+    where
+      s : Bool
+      s = negative f w
+
+      go : (b : Bool) → isEndless f w ≡ b → IsClipped f h s w (toSigned h (ofBits f w))
+      go true e = record { number = n; side = refl; past = λ k. absurd (let z : ⊥ = omega (arith, eqb-true (exponent f w) (ones f) e) in z); end = inf-casts f h w e n }
+      go false e =
+          let l : suc (lastSize h s) ≤ units f w / 2 ^ low f = ltb-true (lastSize h s) (units f w / 2 ^ low f) (rw e at p) in
+          record {
+            number = n;
+            side = refl;
+            past = λ k. le-div-iff-mul-le (pow-pos (low f)) .0 l;
+            end = word-cast f h w (finite-of f w e) ∙ held-is h s (units f w / 2 ^ low f) ∙ ap (signed s) (let m : min (units f w / 2 ^ low f) (lastSize h s) ≡ lastSize h s = omega arith in m);
+          }
+
+  module _ (p : isPast f h w ≡ false) where
+    apart : (isEndless f w ≡ false) × (ltb (lastSize h (negative f w)) (units f w / 2 ^ low f) ≡ false)
+    apart = go (isEndless f w) (ltb (lastSize h (negative f w)) (units f w / 2 ^ low f)) p
+      where
+        go : (a b : Bool) → (a || b) ≡ false → (a ≡ false) × (b ≡ false)
+        go true b e = absurd (true≢false e)
+        go false b e = (refl, e)
+
+    finite-within : Finite f w
+    finite-within = finite-of f w (apart .0)
+
+    whole-casts : toSigned h (ofBits f w) ≡ signed (negative f w) (units f w / 2 ^ low f)
+    whole-casts =
+        let s = negative f w in
+        let n = units f w / 2 ^ low f in
+        let l : n ≤ lastSize h s = ltb-false (lastSize h s) n (apart .1) in
+        word-cast f h w finite-within ∙ held-is h s n ∙ ap (signed s) (let m : min n (lastSize h s) ≡ n = omega arith in m)
+
+    size-casts : natAbs (toSigned h (ofBits f w)) ≡ units f w / 2 ^ low f
+    size-casts = ap natAbs whole-casts ∙ size-is (negative f w) (units f w / 2 ^ low f)
+
+    sign-casts : toSigned h (ofBits f w) ≡ signed (negative f w) (natAbs (toSigned h (ofBits f w)))
+    sign-casts = whole-casts ∙ ap (signed (negative f w)) (sym size-casts)
+
+    pub kept-told : isWhole f w ≡ true → IsKept f w (toSigned h (ofBits f w))
+    kept-told e = record {
+      finite = finite-within;
+      sign = sign-casts;
+      same =
+          rw size-casts
+          (sym (add-zero (units f w / 2 ^ low f * 2 ^ low f))
+          ∙ ap (λ (n : ℕ). units f w / 2 ^ low f * 2 ^ low f + n) (sym (eqb-true (units f w % 2 ^ low f) 0 e))
+          ∙ div-add-mod' (units f w) (2 ^ low f));
+    }
+
+    pub cut-told : isWhole f w ≡ false → IsCut f w (toSigned h (ofBits f w))
+    cut-told e = record {
+      finite = finite-within;
+      sign = sign-casts;
+      whole = size-casts;
+      rest = omega (arith, eqb-false (units f w % 2 ^ low f) 0 e);
+    }
