@@ -6,14 +6,14 @@ ghost use Rattle.format.specs.Sign.{turnedWord};
 ghost use Rattle.format.specs.Whole.{floorWord, ceilWord};
 ghost use Rattle.float.specs.Engine.{ieee};
 ghost use Rattle.float.specs.Atan.{atanNormWord};
-ghost use Rattle.float.specs.Mark.{markOf, numberOf};
+ghost use Rattle.float.specs.Marks.{markOf, numberOf};
 ghost use Rattle.guard.specs.Operations.{opAtan, opTrunc};
 ghost use Rattle.guard.specs.Refusals.{refusalOf};
 ghost use Rattle.frame.specs.Words.{packed, answerWords, wordBeside, wordsOf};
 ghost use Rattle.frame.specs.Frame.{returned, left};
 ghost use Rattle.strip.specs.Strip.{Strips};
 use float::F32;
-use float::cast::Marked;
+use float::mark::Marked;
 use frame::words;
 
 // What a frame with this operation and these two words answers: the refusal number in the high 32

@@ -10,4 +10,4 @@ pub mod Rows
 pub mod Examples
 pub mod ExactCases
 pub mod Nans
-pub mod Mark
+pub mod Marks

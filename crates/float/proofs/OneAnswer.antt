@@ -6,9 +6,9 @@ use lib.Ieee.{binary32, ofBits, toSigned}
 use Rattle.format.specs.Sign.{turnedWord}
 use Rattle.format.specs.Whole.{floorWord, ceilWord}
 use Rattle.format.proofs.Pinned.{OneAnswer, pinned}
-use Rattle.float.specs.declared.cast.Mark.{Mark}
-use Rattle.float.specs.declared.cast.Marked.{Marked}
-use Rattle.float.specs.Mark.{markOf}
+use Rattle.float.specs.declared.mark.Mark.{Mark}
+use Rattle.float.specs.declared.mark.Marked.{Marked}
+use Rattle.float.specs.Marks.{markOf}
 use Rattle.float.proofs.F32.from_bits.Reads as from-bits
 use Rattle.float.proofs.F32.to_bits.Reads as to-bits
 use Rattle.float.proofs.F32.value.Reads as value
@@ -54,7 +54,7 @@ use Rattle.float.proofs.F32.acos.Reads as acos
 use Rattle.float.proofs.F32.tan.Reads as tan
 use Rattle.float.proofs.F32.rem_euclid.Reads as rem-euclid
 use Rattle.float.proofs.F32.div_euclid.Reads as div-euclid
-use Rattle.float.proofs.cast.Mark.number.Reads as mark-number
+use Rattle.float.proofs.mark.Mark.number.Reads as mark-number
 use Rattle.float.proofs.cast.from_i32.Reads as from-i32
 use Rattle.float.proofs.cast.from_u32.Reads as from-u32
 use Rattle.float.proofs.cast.bits_of_i32.Reads as bits-of-i32

@@ -5,16 +5,17 @@ ghost use lib.Ieee.{binary32};
 ghost use Rattle.format.specs.Sign.{turnedWord};
 ghost use Rattle.format.specs.Whole.{ceilWord};
 ghost use Rattle.format.specs.Meaning.{To31, IsCeil};
-ghost use Rattle.float.specs.Mark.{markOf};
+ghost use Rattle.float.specs.Marks.{markOf};
 use crate::F32;
-use crate::cast::Marked;
+use crate::mark::Marked;
 
 impl F32 {
     pub fn ceil(self) -> F32
         ensures steps { λ r. ⌜ r .0 ≡ ceilWord binary32 (self .0) ⌝ }
         ensures ieee { λ r. ⌜ (To31 (self .0) → IsCeil binary32 (self .0) (r .0)) ⌝ }
     {
-        self.ceil_marked().number
+        let down = F32(self.0 ^ F32::SIGN_MASK).floor();
+        F32(down.0 ^ F32::SIGN_MASK)
     }
 
     // The same, with the mark of the cast, which is one of the number with its sign turned.

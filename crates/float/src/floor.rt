@@ -4,17 +4,23 @@ ghost use mathlib.Core.Path.{_≡_};
 ghost use lib.Ieee.{binary32};
 ghost use Rattle.format.specs.Whole.{floorWord};
 ghost use Rattle.format.specs.Meaning.{To31, IsFloor};
-ghost use Rattle.float.specs.Mark.{markOf};
+ghost use Rattle.float.specs.Marks.{markOf};
 use crate::F32;
 use crate::cast;
-use crate::cast::Marked;
+use crate::mark::Marked;
 
 impl F32 {
     pub fn floor(self) -> F32
         ensures steps { λ r. ⌜ r .0 ≡ floorWord binary32 (self .0) ⌝ }
         ensures ieee { λ r. ⌜ (To31 (self .0) → IsFloor binary32 (self .0) (r .0)) ⌝ }
     {
-        self.floor_marked().number
+        let whole = cast::from_i32(self.to_i32());
+        let below = if self.value() < whole {
+            whole - 1.0
+        } else {
+            whole
+        };
+        F32::of(below)
     }
 
     // The same, with the mark of the cast.
@@ -25,14 +31,8 @@ impl F32 {
     {
         let casted = self.cast_marked();
         let mark = casted.mark;
-        let whole = cast::from_i32(casted.value);
-        let below = if self.value() < whole {
-            whole - 1.0
-        } else {
-            whole
-        };
         Marked {
-            number: F32::of(below),
+            number: self.floor(),
             mark: mark,
         }
     }

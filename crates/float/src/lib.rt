@@ -27,6 +27,7 @@ pub mod hypot;
 pub mod inv;
 pub mod invsqrt;
 pub mod ln;
+pub mod mark;
 pub mod powf;
 pub mod powi;
 pub mod recip;

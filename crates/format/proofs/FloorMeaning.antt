@@ -326,7 +326,7 @@ floor-to-ceil f w r c =
       zero = λ e. r-sign ∙ ap not (c .zero (sym r-size ∙ e));
     }
 
-ceil-by-floor : (f : Format) (w : ℕ) → ceilWord f w ≡ turnedWord f (floorWord f (turnedWord f w))
+pub ceil-by-floor : (f : Format) (w : ℕ) → ceilWord f w ≡ turnedWord f (floorWord f (turnedWord f w))
 ceil-by-floor f w =
     let x = neg (ofBits f w) in
     turned-written f (floorValue f x) (floor-fits f x) (floor-no-nan f x) ∙ ap (λ (y : Float). turnedWord f (toBits f (floorValue f y))) (sym (turned-read f w))

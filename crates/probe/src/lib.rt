@@ -9,7 +9,7 @@ ghost use mir.Val.{ofZ, toZ};
 ghost use mir.Syntax.{w32};
 ghost use Rattle.format.specs.Fields.{exponent, magnitude};
 ghost use Rattle.format.specs.Exponent.{exponentValue, setExponentWord, isIntegerWord, isEvenWord};
-ghost use Rattle.float.specs.Mark.{markOf, numberOf};
+ghost use Rattle.float.specs.Marks.{markOf, numberOf};
 ghost use lib.ListN.{getD};
 ghost use Rattle.probe.specs.Constants.{constants};
 use float::F32;

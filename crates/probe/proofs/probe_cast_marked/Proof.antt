@@ -6,7 +6,7 @@ use lib.IntN.{ℤ}
 use mir.Syntax.{w32}
 use mir.Val.{ofZ}
 use mir.Facts.{toZ-ofZ}
-use Rattle.float.specs.Mark.{numberOf}
+use Rattle.float.specs.Marks.{numberOf}
 use Rattle.probe.proofs.probe_cast_marked.Statement.{statement}
 use Rattle.probe.proofs.probe_cast_marked.Tie as tie
 

@@ -1,70 +1,18 @@
--- `float::F32::cast_marked` meets its contract: up to 2 ^ 31 the whole part is one shift of the significand, and past it the cast is clipped.
--- Assumes nothing.
+-- `float::F32::cast_marked` meets its contract: the integer is the cast's, and the mark tells the truth of it. Assumes nothing.
 use borrow.Author.Needs.{needs}
-use mathlib.Core.Path.{_≡_, sym, ap, subst, _∙_}
-use mathlib.Core.Bool.{Bool, cond}
-use Prim.Native.Nat.{ℕ, _+_, _-_, _*_, _/_, _%_, _^_, _<_, _≤_, min}
-use native.Mathlib.Omega.{arith}
-use lib.IntN.{pos, negℤ}
-use lib.Ieee.{binary32}
-use mir.Syntax.{w32}
-use mir.Facts.{toZ-pos}
-use Rattle.format.specs.Fields.{exponent}
-use Rattle.format.proofs.Cast.{Casts, shifted, shifted-lt, range-casts}
-use Rattle.float.proofs.Twos.{negated}
-use Rattle.float.proofs.Mark.{told}
+use mathlib.Core.Path.{_∙_}
+use mir.Facts.{toZ-ofZ}
+use Rattle.float.proofs.Marks.{told}
 use Rattle.float.proofs.F32.cast_marked.Statement.{statement}
 use Rattle.float.proofs.F32.cast_marked.Tie as tie
-
--- the whole part as the code forms it, by the count of places that it found
-abbrev part : ℕ → ℕ → ℕ
-part w k = (2 ^ 23 + w % 2 ^ 23) * 2 ^ 8 / 2 ^ k
-
-field-le : (c : tie.After-below-64) → exponent binary32 (c .before .before .before .before .args .self .0) ≤ 157
-field-le c = subst (λ (x : ℕ). x ≤ 157) (c .before .before .before .extract-exponent-bits .ensures) (omega arith)
-
-part-is : (c : tie.After-below-64) → let w = c .before .before .before .before .args .self .0 in part w (c .below-64 .result) ≡ shifted w
-part-is c =
-    let w = c .before .before .before .before .args .self .0 in
-    ap (part w) (c .below-64 .ensures ∙ ap (λ (x : ℕ). min (158 - x) 63) (c .before .before .before .extract-exponent-bits .ensures))
-
-part-lt : (c : tie.After-below-64) → part (c .before .before .before .before .args .self .0) (c .below-64 .result) < 2 ^ 31
-part-lt c = subst (λ (n : ℕ). n < 2 ^ 31) (sym (part-is c)) (shifted-lt (c .before .before .before .before .args .self .0) (field-le c))
-
-inside : (c : tie.After-is-sign-negative) → let w = c .before .before .before .before .before .before .args .self .0 in
-    let n = part w (c .before .before .below-64 .result) in
-    Casts w (cond (c .is-sign-negative .result) (negℤ (pos n)) (pos n))
-inside c =
-    let w = c .before .before .before .before .before .before .args .self .0 in
-    range-casts w (field-le (c .before .before))
-    ∙ ap (λ (s : Bool). cond s (negℤ (pos (shifted w))) (pos (shifted w))) (sym (c .is-sign-negative .ensures))
-    ∙ ap (λ (n : ℕ). cond (c .is-sign-negative .result) (negℤ (pos n)) (pos n)) (sym (part-is (c .before .before)))
 
 pub cast-marked-spec : {M : Type 1} → statement M
 cast-marked-spec =
     let met = tie.spec
     (λ c κs. search needs)
-    (λ c. search needs)
     (λ c κs. search needs)
-    (λ c. told (c .before .before .before .args .self .0) (c .clipped .ensures .0) (c .clipped .ensures .1))
-    (λ c. search needs)
-    (λ c. search needs)
-    (λ c. search needs)
-    (λ c. search needs)
-    (λ c. search needs)
-    (λ c κs. search needs)
-    (λ c. search needs)
-    (λ c. search needs)
-    (λ c. record { sfits = part-lt c })
-    (λ c κs. search needs)
-    (λ c κs. search needs)
-    (λ c. negated _ (part-lt (c .before .before .before)) .subs)
     (λ c.
-    told (c .before .before .before .before .before .before .before .args .self .0)
-    (negated _ (part-lt (c .before .before .before)) .is ∙ sym (inside (c .before) ∙ rw (c .if2 .taken)))
-    (c .before .before .within .ensures))
-    (λ c.
-    told (c .before .before .before .before .before .before .before .args .self .0)
-    (toZ-pos w32 (part-lt (c .before .before .before)) ∙ sym (inside (c .before) ∙ rw (c .if2 .left)))
-    (c .before .before .within .ensures)) in
+    told (c .before .before .args .self .0)
+    (toZ-ofZ (record { sfits = c .before .to-i32 .ok }) ∙ c .before .to-i32 .ensures)
+    (c .of-cast .ensures)) in
     tie.close met

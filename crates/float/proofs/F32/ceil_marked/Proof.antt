@@ -1,17 +1,15 @@
--- `float::F32::ceil_marked` meets its contract: a turned sign bit is a negated number, before the floor and after it. Assumes nothing.
+-- `float::F32::ceil_marked` meets its contract: the floor and the mark are those of the word with its sign turned. Assumes nothing.
 use borrow.Author.Needs.{needs}
 use mathlib.Core.Path.{_≡_, sym, ap, _∙_}
-use Prim.Native.Nat.{_^_}
+use Prim.Native.Nat.{ℕ, _^_}
 use lib.Bits.{bitXor}
-use lib.Ieee.{Float, binary32, neg, ofBits, toBits}
+use lib.Ieee.{binary32}
 use Rattle.format.specs.Sign.{turnedWord}
-use Rattle.format.specs.Whole.{floorValue}
-use Rattle.format.proofs.Masks.{turn-sign}
-use Rattle.format.proofs.Sign.{turned-read, turned-written}
-use Rattle.format.proofs.Whole.{floor-no-nan, floor-fits}
+use Rattle.format.specs.Whole.{floorWord}
 use Rattle.format.specs.Meaning.{IsCeil}
-use Rattle.format.proofs.FloorMeaning.{ceil-is}
-use Rattle.float.specs.Mark.{markOf}
+use Rattle.format.proofs.Masks.{turn-sign}
+use Rattle.format.proofs.FloorMeaning.{ceil-by-floor, ceil-is}
+use Rattle.float.specs.Marks.{markOf}
 use Rattle.float.proofs.Both.{both}
 use Rattle.float.proofs.F32.ceil_marked.Statement.{statement}
 use Rattle.float.proofs.F32.ceil_marked.Tie as tie
@@ -20,23 +18,17 @@ use Rattle.float.proofs.F32.ceil_marked.Tie as tie
 turned-is : (c : tie.After-floor-marked) → let w = c .before .before .args .self .0 in bitXor w (2 ^ 31) ≡ turnedWord binary32 w
 turned-is c = turn-sign binary32 (c .before .before .args .self .0) (c .before .struct-known .given .0 .fits)
 
--- the floor's word is that of the negated number
-down-is : (c : tie.After-floor-marked) → c .floor-marked .result .number .0 ≡ toBits binary32 (floorValue binary32 (neg (ofBits binary32 (c .before .before .args .self .0))))
-down-is c =
-    c .floor-marked .ensures .0
-    ∙ ap (λ (x : Float). toBits binary32 (floorValue binary32 x)) (ap (ofBits binary32) (turned-is c) ∙ turned-read binary32 (c .before .before .args .self .0))
-
 pub ceil-marked-spec : {M : Type 1} → statement M
 ceil-marked-spec =
     let met = tie.spec
     (λ c κs. search needs)
     (λ c.
-    let w = c .before .before .before .args .self .0 in
-    let x = neg (ofBits binary32 w) in
+    let down = c .before in
+    let w = down .before .before .args .self .0 in
     let word = both (IsCeil binary32 w)
-    (turn-sign binary32 (c .before .floor-marked .result .number .0) (c .struct-known2 .given .0 .0 .fits)
-    ∙ ap (turnedWord binary32) (down-is (c .before))
-    ∙ sym (turned-written binary32 (floorValue binary32 x) (floor-fits binary32 x) (floor-no-nan binary32 x)))
+    (turn-sign binary32 (down .floor-marked .result .number .0) (c .struct-known2 .given .0 .0 .fits)
+    ∙ ap (turnedWord binary32) (down .floor-marked .ensures .0 ∙ ap (floorWord binary32) (turned-is down))
+    ∙ sym (ceil-by-floor binary32 w))
     (ceil-is w) in
-    (word .0, (word .1, c .before .floor-marked .ensures .1 .1 ∙ ap markOf (turned-is (c .before))))) in
+    (word .0, (word .1, down .floor-marked .ensures .1 .1 ∙ ap markOf (turned-is down)))) in
     tie.close met

@@ -6,8 +6,8 @@ use lib.IntN.{ℤ}
 use lib.Ieee.{binary32, nanBits}
 use Rattle.format.specs.Fields.{negative}
 use Rattle.format.specs.Cast.{isWhole, isPast, IsKept, IsCut, IsClipped, IsNothing}
-use Rattle.float.specs.declared.cast.Mark.{Mark}
-use Rattle.float.specs.declared.cast.Mark.the-variants.{Exact, Dropped, High, Low, NotANumber}
+use Rattle.float.specs.declared.mark.Mark.{Mark}
+use Rattle.float.specs.declared.mark.Mark.the-variants.{Exact, Dropped, High, Low, NotANumber}
 
 abbrev pub markOf : ℕ → Mark
 markOf w =

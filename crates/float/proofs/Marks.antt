@@ -6,12 +6,13 @@ use mathlib.Core.Bool.{Bool, true, false, cond}
 use lib.IntN.{ℤ}
 use lib.Ieee.{binary32, ofBits, nanBits, toSigned}
 use Rattle.format.specs.Fields.{negative, exponent}
+use Rattle.format.specs.Exponent.{isIntegerWord}
+use Rattle.format.specs.Classes.{isZero}
 use Rattle.format.specs.Cast.{isWhole, isPast, IsClipped}
-use Rattle.format.proofs.Nan.{finite-number}
-use Rattle.format.proofs.CastMeaning.{within-range, past-high, past-low, nothing-told, clipped-told, kept-told, cut-told}
-use Rattle.float.specs.declared.cast.Mark.{Mark}
-use Rattle.float.specs.declared.cast.Mark.the-variants.{Exact, Dropped, High, Low, NotANumber}
-use Rattle.float.specs.Mark.{markOf, Tells}
+use Rattle.format.proofs.CastMeaning.{whole-below-one, whole-from-one, within-range, past-high, past-low, nothing-told, clipped-told, kept-told, cut-told}
+use Rattle.float.specs.declared.mark.Mark.{Mark}
+use Rattle.float.specs.declared.mark.Mark.the-variants.{Exact, Dropped, High, Low, NotANumber}
+use Rattle.float.specs.Marks.{markOf, Tells}
 
 -- ---- what a mark tells
 
@@ -35,18 +36,25 @@ told w {z} e d = (e, (d, subst (λ (n : Mark). Tells n w z) (sym d) (subst (λ (
 
 -- ---- the mark by the fields
 
-pub mark-within : (w : ℕ) → exponent binary32 w ≤ 157 → markOf w ≡ cond (isWhole binary32 w) Exact Dropped
-mark-within w h = rw (finite-number binary32 w (omega arith), within-range w h)
-
 pub mark-nan : (w : ℕ) → nanBits binary32 w ≡ true → markOf w ≡ NotANumber
 mark-nan w e = rw e
 
-module _ (w : ℕ) (h : 158 ≤ exponent binary32 w) (n : nanBits binary32 w ≡ false) where
-  pub mark-high : negative binary32 w ≡ false → markOf w ≡ High
-  mark-high s = rw (n, past-high w h s, s)
+module _ (w : ℕ) (n : nanBits binary32 w ≡ false) where
+  -- by what a test of a whole number found
+  within : {b : Bool} {m : Mark} → exponent binary32 w ≤ 157 → m ≡ cond b Exact Dropped → b ≡ isWhole binary32 w → m ≡ markOf w
+  within h e i = e ∙ ap (λ (x : Bool). cond x Exact Dropped) i ∙ sym (rw (n, within-range w h))
 
-  pub mark-low : w < 2 ^ 32 → negative binary32 w ≡ true → (w ≡ 0xcf00_0000 → ⊥) → markOf w ≡ Low
-  mark-low l s d = rw (n, past-low w l h s d, s)
+  pub mark-below-one : {b : Bool} {m : Mark} → exponent binary32 w < 127 → m ≡ cond b Exact Dropped → b ≡ isZero binary32 w → m ≡ markOf w
+  mark-below-one h e z = within (omega arith) e (z ∙ sym (whole-below-one binary32 w h))
+
+  pub mark-from-one : {b : Bool} {m : Mark} → 127 ≤ exponent binary32 w → exponent binary32 w < 158 → m ≡ cond b Exact Dropped → b ≡ isIntegerWord binary32 w → m ≡ markOf w
+  mark-from-one l h e i = within (omega arith) e (i ∙ sym (whole-from-one binary32 w l (omega arith)))
+
+  pub mark-high : 158 ≤ exponent binary32 w → negative binary32 w ≡ false → markOf w ≡ High
+  mark-high h s = rw (n, past-high w h s, s)
+
+  pub mark-low : w < 2 ^ 32 → 158 ≤ exponent binary32 w → negative binary32 w ≡ true → (w ≡ 0xcf00_0000 → ⊥) → markOf w ≡ Low
+  mark-low l h s d = rw (n, past-low w l h s d, s)
 
 pub mark-least : (w : ℕ) → w ≡ 0xcf00_0000 → markOf w ≡ Exact
 unfolding nanBits
