@@ -11,3 +11,4 @@ pub mod Examples
 pub mod ExactCases
 pub mod Nans
 pub mod Marks
+pub mod MarkedWords

@@ -1,18 +1,27 @@
--- A mark tells the truth of the word that was cast and of its integer. The mark by the fields of a word, as the cast finds it. Assumes nothing.
+-- A mark tells the truth of the word that was cast and of its integer, and no other mark does; where it says that nothing was clipped, raw
+-- floor and ceil are right. The mark by the fields of a word, as the code finds it. Assumes nothing.
 use Prim.Native.Nat.{ℕ, _^_, _<_, _≤_}
 use native.Mathlib.Omega.{arith}
 use mathlib.Core.Path.{_≡_, refl, sym, ap, subst, _∙_}
-use mathlib.Core.Bool.{Bool, true, false, cond}
+use mathlib.Core.Bool.{Bool, true, false, not, cond}
+use borrow.Author.Tests.{leb-true, leb-false}
+use lib.Dec.{leb}
 use lib.IntN.{ℤ}
 use lib.Ieee.{binary32, ofBits, nanBits, toSigned}
-use Rattle.format.specs.Fields.{negative, exponent}
+use Rattle.format.specs.Fields.{negative, magnitude, exponent}
+use Rattle.format.specs.Sign.{turnedWord}
 use Rattle.format.specs.Exponent.{isIntegerWord}
 use Rattle.format.specs.Classes.{isZero}
 use Rattle.format.specs.Cast.{isWhole, isPast, IsClipped}
-use Rattle.format.proofs.CastMeaning.{whole-below-one, whole-from-one, within-range, past-high, past-low, nothing-told, clipped-told, kept-told, cut-told}
+use Rattle.format.specs.Whole.{floorWord, ceilWord}
+use Rattle.format.specs.Meaning.{To31, IsFloor, IsCeil}
+use Rattle.format.proofs.Nan.{finite-number}
+use Rattle.format.proofs.Sign.{turned-magnitude, turned-lt}
+use Rattle.format.proofs.FloorMeaning.{floor-is, ceil-is}
+use Rattle.format.proofs.CastMeaning.{whole-below-one, whole-from-one, within-range, past-high, past-low, nothing-told, clipped-told, kept-told, cut-told, kept-only, cut-only, clipped-only}
 use Rattle.float.specs.declared.mark.Mark.{Mark}
 use Rattle.float.specs.declared.mark.Mark.the-variants.{Exact, Dropped, High, Low, NotANumber}
-use Rattle.float.specs.Marks.{markOf, Tells}
+use Rattle.float.specs.Marks.{markOf, numberOf, Tells}
 
 -- ---- what a mark tells
 
@@ -33,6 +42,14 @@ tells w = go (nanBits binary32 w) (isPast binary32 31 w) (isWhole binary32 w) re
 -- the clauses of the cast, from two equations
 pub told : (w : ℕ) {z : ℤ} {m : Mark} → z ≡ toSigned 31 (ofBits binary32 w) → m ≡ markOf w → (z ≡ toSigned 31 (ofBits binary32 w)) × ((m ≡ markOf w) × Tells m w z)
 told w {z} e d = (e, (d, subst (λ (n : Mark). Tells n w z) (sym d) (subst (λ (y : ℤ). Tells (markOf w) w y) (sym e) (tells w))))
+
+-- no other mark does
+pub one-mark : (m : Mark) (w : ℕ) → Tells m w (toSigned 31 (ofBits binary32 w)) → m ≡ markOf w
+one-mark Exact w c = let k = kept-only binary32 31 w c in sym (rw (finite-number binary32 w (c .finite), k .0, k .1))
+one-mark Dropped w c = let k = cut-only binary32 31 w c in sym (rw (finite-number binary32 w (c .finite), k .0, k .1))
+one-mark High w c = sym (rw (c .number, clipped-only binary32 31 w c, c .side))
+one-mark Low w c = sym (rw (c .number, clipped-only binary32 31 w c, c .side))
+one-mark NotANumber w c = sym (rw (c .nan))
 
 -- ---- the mark by the fields
 
@@ -59,3 +76,29 @@ module _ (w : ℕ) (n : nanBits binary32 w ≡ false) where
 pub mark-least : (w : ℕ) → w ≡ 0xcf00_0000 → markOf w ≡ Exact
 unfolding nanBits
 mark-least w e = rw e
+
+-- ---- where nothing was clipped, marked 0 or 1, floor and ceil have their meaning
+
+clear-to31 : (w : ℕ) → w < 2 ^ 32 → numberOf (markOf w) ≤ 1 → To31 w
+clear-to31 w l h = go (leb (magnitude binary32 w) 0x4f00_0000) refl
+  where
+    not-clear : {m : Mark} → markOf w ≡ m → (numberOf m ≤ 1 → ⊥) → To31 w
+    not-clear e n = absurd (n (subst (λ (m : Mark). numberOf m ≤ 1) e h))
+
+    go : (b : Bool) → leb (magnitude binary32 w) 0x4f00_0000 ≡ b → To31 w
+    go true e = leb-true _ _ e
+    go false e = by-class (nanBits binary32 w) (negative binary32 w) refl refl
+      where
+        k : 0x4f00_0000 < magnitude binary32 w
+        k = leb-false (magnitude binary32 w) 0x4f00_0000 e
+
+        by-class : (n s : Bool) → nanBits binary32 w ≡ n → negative binary32 w ≡ s → To31 w
+        by-class true s a b = not-clear (mark-nan w a) (λ z. omega arith)
+        by-class false true a b = not-clear (mark-low w a l (omega (arith, k)) b (λ z. omega (arith, k))) (λ z. omega arith)
+        by-class false false a b = not-clear (mark-high w a (omega (arith, k)) b) (λ z. omega arith)
+
+pub clear-floor : (w : ℕ) → w < 2 ^ 32 → numberOf (markOf w) ≤ 1 → IsFloor binary32 w (floorWord binary32 w)
+clear-floor w l h = floor-is w (clear-to31 w l h)
+
+pub clear-ceil : (w : ℕ) → w < 2 ^ 32 → numberOf (markOf (turnedWord binary32 w)) ≤ 1 → IsCeil binary32 w (ceilWord binary32 w)
+clear-ceil w l h = ceil-is w (rw (turned-magnitude binary32 w) at (clear-to31 (turnedWord binary32 w) (turned-lt binary32 w (not (negative binary32 w))) h))

@@ -1,15 +1,16 @@
 -- What a cast to an integer did to a number: of a number within the range the integer is its whole part, and past it the last integer on
 -- its side. Which words are within it and which are whole, by the tests of their fields. Assumes nothing.
 use Prim.Native.Nat.{ℕ, zero, suc, _+_, _-_, _*_, _/_, _%_, _^_, _<_, _≤_, min}
-use native.Mathlib.Nat.{zero-mul, zero-div, mul-pos, zero-lt-suc, mod-eq-of-lt, div-mul-le-self, div-add-mod', le-trans, lt-of-lt-of-le, le-of-lt, mul-le-mul-right, mul-le-mul-left, le-div-iff-mul-le, div-lt-iff-lt-mul, add-zero, sub-le}
+use native.Mathlib.Nat.{zero-mul, mul-pos, zero-lt-suc, mod-eq-of-lt, mul-mod-left, mul-div-cancel, div-add-mod', le-trans, lt-of-lt-of-le, le-of-lt, ne-of-lt, ne-of-gt, mul-le-mul-right, mul-le-mul-left, le-div-iff-mul-le, div-lt-iff-lt-mul, add-zero}
 use native.Mathlib.Omega.{arith}
 use mathlib.Core.Path.{_≡_, refl, sym, ap, subst, _∙_}
-use mathlib.Core.Bool.{Bool, true, false, cond, _||_, true≢false}
+use mathlib.Core.Bool.{Bool, true, false, _||_, true≢false}
+use mathlib.Core.List.{List, [], _∷_, map}
 use borrow.Author.Tests.{ltb-true, ltb-false, lt-ltb, le-ltb, eqb-true, eqb-false, ne-eqb, eq-eqb}
 use lib.Dec.{ltb, eqb, lit<, lit≤}
 use lib.IntN.{ℤ, pos, negsuc, negℤ, natAbs}
 use lib.Pow.{pow-pos, pow-add, pow-mono, shl-lt}
-use lib.Ieee.{Format, binary32, Float, inf, prec, emax, low, hid, ones, top, ofBits, nanBits, toSigned}
+use lib.Ieee.{Format, binary32, binary64, inf, prec, emax, low, hid, ones, top, ofBits, nanBits, toSigned}
 use lib.Ieee.Fits.{two}
 use Rattle.format.specs.Fields.{negative, exponent, fraction, signBit}
 use Rattle.format.specs.Exponent.{places, isIntegerWord}
@@ -18,7 +19,7 @@ use Rattle.format.specs.Classes.{isEndless, isZero}
 use Rattle.format.specs.Parts.{belowPoint, fractWord}
 use Rattle.format.specs.Cast.{isWhole, lastSize, isPast, signed, IsKept, IsCut, IsClipped, IsNothing}
 use Rattle.format.proofs.Fields.{fraction-lt, three-fields}
-use Rattle.format.proofs.Nan.{nan-read, inf-read}
+use Rattle.format.proofs.Nan.{nan-read, inf-read, finite-number}
 use Rattle.format.proofs.AtLeastZero.{units-zero}
 use Rattle.format.proofs.Classes.{finite-of}
 use Rattle.format.proofs.Cast.{held, word-cast, past-range}
@@ -179,3 +180,70 @@ module _ (f : Format) (h w : ℕ) where
       whole = size-casts;
       rest = omega (arith, eqb-false (units f w % 2 ^ low f) 0 e);
     }
+
+  -- ---- and back: what the integer is to the word tells the tests
+
+  past-size : isPast f h w ≡ true → Finite f w → (natAbs (toSigned h (ofBits f w)) ≡ lastSize h (negative f w)) × (lastSize h (negative f w) < units f w / 2 ^ low f)
+  past-size p k =
+      let s = negative f w in
+      let c = clipped-told (finite-number f w k) p in
+      (ap natAbs (c .end) ∙ size-is s (lastSize h s), le-div-iff-mul-le (pow-pos (low f)) .1 (c .past k))
+
+  -- a finite number whose whole part is the integer's size is not past the end
+  not-past : Finite f w → natAbs (toSigned h (ofBits f w)) ≡ units f w / 2 ^ low f → isPast f h w ≡ false
+  not-past k e = go (isPast f h w) refl
+    where
+      go : (b : Bool) → isPast f h w ≡ b → b ≡ false
+      go false p = refl
+      go true p = let q = past-size p k in absurd (ne-of-lt (q .1) (sym (q .0) ∙ e))
+
+  pub kept-only : IsKept f w (toSigned h (ofBits f w)) → (isPast f h w ≡ false) × (isWhole f w ≡ true)
+  kept-only c =
+      let n = natAbs (toSigned h (ofBits f w)) in (
+        not-past (c .finite) (sym (mul-div-cancel n (pow-pos (low f))) ∙ ap (λ (u : ℕ). u / 2 ^ low f) (c .same)),
+        eq-eqb _ 0 (ap (λ (u : ℕ). u % 2 ^ low f) (sym (c .same)) ∙ mul-mod-left n (2 ^ low f)),
+      )
+
+  pub cut-only : IsCut f w (toSigned h (ofBits f w)) → (isPast f h w ≡ false) × (isWhole f w ≡ false)
+  cut-only c = (not-past (c .finite) (c .whole), ne-eqb _ 0 (ne-of-gt (c .rest)))
+
+  pub clipped-only : {s : Bool} {z : ℤ} → IsClipped f h s w z → isPast f h w ≡ true
+  clipped-only {s} c = go (isEndless f w) refl
+    where
+      go : (b : Bool) → isEndless f w ≡ b → (b || ltb (lastSize h (negative f w)) (units f w / 2 ^ low f)) ≡ true
+      go true e = refl
+      go false e = rw (c .side) (lt-ltb (lastSize h s) _ (le-div-iff-mul-le (pow-pos (low f)) .1 (c .past (finite-of f w e))))
+
+-- ---- whole, and past the end of 32 bits, at the words beside each test: both zeros, the smallest numbers, 1/2, 1 and 3/2, the last with a
+-- fraction and the next, 2 ^ 31 - 1 and what follows it, 2 ^ 31, -2 ^ 31 and what follows that, the infinities. In binary64 a half may
+-- follow the ends, which is cut off and not past them.
+
+abbrev tests : Format → ℕ → List Bool
+tests f w = isWhole f w ∷ isPast f 31 w ∷ []
+
+abbrev inside-whole : List Bool
+inside-whole = true ∷ false ∷ []
+
+abbrev inside-part : List Bool
+inside-part = false ∷ false ∷ []
+
+abbrev past-whole : List Bool
+past-whole = true ∷ true ∷ []
+
+pub tests-32 : map (tests binary32)
+    (0x0000_0000 ∷ 0x8000_0000 ∷ 0x0000_0001 ∷ 0x8000_0001 ∷ 0x3f00_0000 ∷ 0x3f80_0000 ∷ 0x3fc0_0000 ∷ 0x4aff_ffff ∷ 0x4b00_0000
+    ∷ 0x4eff_ffff ∷ 0x4f00_0000 ∷ 0xceff_ffff ∷ 0xcf00_0000 ∷ 0xcf00_0001 ∷ 0x7f80_0000 ∷ 0xff80_0000 ∷ [])
+    ≡ inside-whole ∷ inside-whole ∷ inside-part ∷ inside-part ∷ inside-part ∷ inside-whole ∷ inside-part ∷ inside-part ∷ inside-whole
+    ∷ inside-whole ∷ past-whole ∷ inside-whole ∷ inside-whole ∷ past-whole ∷ past-whole ∷ past-whole ∷ []
+tests-32 = refl
+
+pub tests-64 : map (tests binary64)
+    (0x0000_0000_0000_0000 ∷ 0x8000_0000_0000_0000 ∷ 0x0000_0000_0000_0001 ∷ 0x8000_0000_0000_0001 ∷ 0x3fe0_0000_0000_0000
+    ∷ 0x3ff0_0000_0000_0000 ∷ 0x3ff8_0000_0000_0000
+    ∷ 0x41df_ffff_ffc0_0000 ∷ 0x41df_ffff_ffe0_0000 ∷ 0x41e0_0000_0000_0000
+    ∷ 0xc1e0_0000_0000_0000 ∷ 0xc1e0_0000_0010_0000 ∷ 0xc1e0_0000_0020_0000 ∷ 0x7ff0_0000_0000_0000 ∷ 0xfff0_0000_0000_0000 ∷ [])
+    ≡ inside-whole ∷ inside-whole ∷ inside-part ∷ inside-part ∷ inside-part
+    ∷ inside-whole ∷ inside-part
+    ∷ inside-whole ∷ inside-part ∷ past-whole
+    ∷ inside-whole ∷ inside-part ∷ past-whole ∷ past-whole ∷ past-whole ∷ []
+tests-64 = refl
