@@ -1,6 +1,7 @@
 //! What is compared: each kernel of ours, raw and guarded, beside the crate's, with the rule by which two words agree.
 
 use crate::gates::Gate;
+use crate::marks;
 use crate::remainder;
 use micromath::{helpers, F32};
 use std::f32::consts;
@@ -11,12 +12,15 @@ extern "C" {
     fn dampmeadow_atan_norm(a: u32) -> u32;
     fn dampmeadow_atan_norm_guarded(a: u32) -> u64;
     fn dampmeadow_parts(a: u32, whole: &mut u32, rest: &mut u32) -> u32;
+    fn dampmeadow_floor_marked(a: u32) -> u64;
+    fn dampmeadow_ceil_marked(a: u32) -> u64;
     fn dampmeadow_strip(op: u32, first: *const u32, n: usize, second: *const u32, m: usize, answers: *mut u32, k: usize, refusals: *mut u32, l: usize) -> u32;
 }
 
 #[link(name = "probe", kind = "static")]
 extern "C" {
     fn probe_to_i32(a: u32) -> i32;
+    fn probe_cast_marked(a: u32) -> u64;
     fn probe_from_i32(n: i32) -> u32;
     fn probe_from_u32(n: u32) -> u32;
     fn probe_value(a: u32) -> u32;
@@ -78,6 +82,8 @@ pub enum Agree {
     /// Behind a gate: ours refuses what the gate does, and its answers are the crate's bit for bit and no NaN, but that sqrt's of a
     /// zero is that zero.
     Guarded(Gate),
+    /// Bit for bit, and ours has this mark of the first word in its high half.
+    Marked(fn(u32) -> u32),
 }
 
 /// How a kernel of ours is called: by its number among the operations, or by an export of its own.
@@ -130,16 +136,21 @@ impl Kernel {
         matches!(self.agree, Agree::Guarded(_))
     }
 
+    /// Whether the high half of an answer is a mark, and no refusal.
+    pub fn is_marked(&self) -> bool {
+        matches!(self.agree, Agree::Marked(_))
+    }
+
     /// The refusal that the gate gives for these words, or 0; only a guarded kernel has any.
     #[inline(always)]
     pub fn refusal(&self, a: u32, b: u32) -> u64 {
         match self.agree {
             Agree::Guarded(gate) => gate.refusal(a, b),
-            Agree::Exact | Agree::Nan => 0,
+            Agree::Exact | Agree::Nan | Agree::Marked(_) => 0,
         }
     }
 
-    /// The word that ours has to answer with, if any will do.
+    /// The word that ours has to answer with, if any will do, and its mark.
     #[inline(always)]
     pub fn answer(&self, a: u32, b: u32) -> Option<u64> {
         let theirs = (self.theirs)(a, b);
@@ -147,6 +158,7 @@ impl Kernel {
             Agree::Nan if is_nan(theirs) => Some(NAN as u64),
             Agree::Guarded(gate) if gate.keeps(a) => Some(a as u64),
             Agree::Guarded(_) if is_nan(theirs) => None,
+            Agree::Marked(mark) => Some(marks::over(mark(a), theirs)),
             _ => Some(theirs as u64),
         }
     }
@@ -168,7 +180,7 @@ impl Kernel {
         (is_built && theirs != NAN).then_some(theirs)
     }
 
-    /// What ours gives: a refusal in the high half, a word in the low.
+    /// What ours gives: a refusal or a mark in the high half, a word in the low.
     #[inline(always)]
     pub fn ours(&self, a: u32, b: u32) -> u64 {
         match self.call {
@@ -243,8 +255,8 @@ macro_rules! raw {
 
 /// What has no number, by its own exported call.
 macro_rules! own {
-    ($name:literal, $takes:ident, $agree:ident, $theirs:expr, $ours:expr) => {
-        kernel!(Call::Own($ours), $name, $takes, Agree::$agree, $theirs)
+    ($name:literal, $takes:ident, $agree:ident $(($mark:expr))?, $theirs:expr, $ours:expr) => {
+        kernel!(Call::Own($ours), $name, $takes, Agree::$agree $(($mark))?, $theirs)
     };
 }
 
@@ -352,6 +364,15 @@ fn helpers() -> Vec<Kernel> {
     ]
 }
 
+/// The cast to i32, floor and ceil again, each with the mark of the cast that it makes.
+fn marked() -> Vec<Kernel> {
+    vec![
+        own!("cast marked", One, Marked(marks::of), |a, _| f(a).0 as i32 as u32, |a, _| unsafe { probe_cast_marked(a) }),
+        own!("floor marked", One, Marked(marks::of), |a, _| f(a).floor().to_bits(), |a, _| unsafe { dampmeadow_floor_marked(a) }),
+        own!("ceil marked", One, Marked(marks::of_turned), |a, _| f(a).ceil().to_bits(), |a, _| unsafe { dampmeadow_ceil_marked(a) }),
+    ]
+}
+
 /// Raw rem_euclid and div_euclid again, with the steps over `remainder.rs` in the crate's place. Nothing is skipped.
 fn by_whole_numbers() -> Vec<Kernel> {
     vec![
@@ -362,7 +383,7 @@ fn by_whole_numbers() -> Vec<Kernel> {
 
 /// What stands beside the crate itself.
 pub fn beside_the_crate() -> Vec<Kernel> {
-    guarded().into_iter().chain(raw()).chain(helpers()).collect()
+    guarded().into_iter().chain(raw()).chain(helpers()).chain(marked()).collect()
 }
 
 pub fn all() -> Vec<Kernel> {

@@ -7,6 +7,7 @@ mod frames_speed;
 mod gates;
 mod kernels;
 mod lines;
+mod marks;
 mod reader;
 mod refusals;
 mod remainder;

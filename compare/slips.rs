@@ -9,6 +9,7 @@ extern crate self as micromath;
 mod float;
 mod gates;
 pub mod kernels;
+mod marks;
 mod reader;
 mod remainder;
 pub mod sweep;

@@ -1,20 +1,20 @@
 //! Going over the words, on every core, with a line of progress.
 
 use crate::kernels::{places, Kernel, Takes, NAN};
+use crate::marks::Tally;
 use crate::words::{edges, Random};
 use std::io::{IsTerminal, Write};
 use std::sync::atomic::{AtomicU64, Ordering};
 use std::sync::Mutex;
 use std::time::{Duration, Instant};
 
-/// One call of ours, with what it gives and what it should.
+/// One call of ours, with what it gives and what it should, for a reader.
 #[derive(Clone)]
 pub struct Trial {
     /// The call and its words.
     asked: String,
-    /// Nothing where the crate's word is a NaN and the call may give none.
-    expected: Option<u64>,
-    ours: u64,
+    expected: String,
+    ours: String,
 }
 
 #[derive(Default)]
@@ -28,16 +28,43 @@ pub struct Count {
     pub built: u64,
     /// The first of these: the call, its words, and the crate's word.
     pub first_built: Option<(Trial, u32)>,
+    /// The marks that ours gave, where the high half of an answer is one.
+    pub marks: Option<Tally>,
 }
 
 impl Count {
+    /// Nothing tried yet of this kernel.
+    fn of(kernel: &Kernel) -> Count {
+        Count { marks: kernel.is_marked().then(Tally::default), ..Count::default() }
+    }
+
     /// Counts a trial. What was asked is told only of the first that differs.
     #[inline(always)]
     pub fn judge(&mut self, expected: Option<u64>, ours: u64, asked: impl FnOnce() -> String) {
         self.tried += 1;
+        if let Some(marks) = &mut self.marks {
+            marks.note(ours);
+        }
         if expected != Some(ours) {
             self.differ += 1;
-            self.first.get_or_insert_with(|| Trial { asked: asked(), expected, ours });
+            if self.first.is_none() {
+                self.first = Some(self.trial(asked(), expected, ours));
+            }
+        }
+    }
+
+    /// Nothing is expected where the crate's word is a NaN and the call may give none.
+    fn trial(&self, asked: String, expected: Option<u64>, ours: u64) -> Trial {
+        let written = if self.marks.is_some() { with_mark } else { written };
+        Trial { asked, expected: expected.map_or("no NaN".to_string(), written), ours: written(ours) }
+    }
+
+    /// Once every word was tried: that not as many were given each mark as have it is a difference by itself.
+    fn judge_marks(&mut self, label: &str) {
+        if let Some(marks) = self.marks.filter(|marks| *marks != Tally::OF_ALL) {
+            self.differ += 1;
+            let trial = || Trial { asked: format!("{label} of every word"), expected: Tally::OF_ALL.to_string(), ours: marks.to_string() };
+            self.first.get_or_insert_with(trial);
         }
     }
 
@@ -48,6 +75,9 @@ impl Count {
         self.first = self.first.take().or_else(|| other.first.clone());
         self.built += other.built;
         self.first_built = self.first_built.take().or_else(|| other.first_built.clone());
+        if let (Some(marks), Some(more)) = (&mut self.marks, &other.marks) {
+            marks.add(more);
+        }
     }
 }
 
@@ -57,11 +87,13 @@ pub fn line(label: &str, count: &Count) -> String {
         line += &format!(", {} skipped", count.skipped);
     }
     if let Some((t, theirs)) = &count.first_built {
-        line += &format!(", {} where the crate built a NaN from bits (the first: {} is {theirs:08x} there and {} here)", count.built, t.asked, written(t.ours));
+        line += &format!(", {} where the crate built a NaN from bits (the first: {} is {theirs:08x} there and {} here)", count.built, t.asked, t.ours);
+    }
+    if let Some(marks) = &count.marks {
+        line += &format!(", by their marks {marks}");
     }
     if let Some(t) = &count.first {
-        let expected = t.expected.map_or("no NaN".to_string(), written);
-        line += &format!("; the first: {} should be {expected} and is {}", t.asked, written(t.ours));
+        line += &format!("; the first: {} should be {} and is {}", t.asked, t.expected, t.ours);
     }
     line
 }
@@ -72,6 +104,11 @@ fn written(answer: u64) -> String {
         0 => format!("{answer:08x}"),
         refusal => format!("refusal {refusal} with {:08x}", answer as u32),
     }
+}
+
+/// An answer that has a mark.
+fn with_mark(answer: u64) -> String {
+    format!("mark {} with {:08x}", answer >> 32, answer as u32)
 }
 
 /// What is tried, as numbered pairs of words: number `i` below `len` is tried as `at(i)`.
@@ -124,7 +161,7 @@ impl Plan {
     fn run(&self, kernel: &Kernel, from: u64, to: u64) -> Count {
         const STRIP: usize = 4_096;
         let mut random = Random::new(from + 1);
-        let mut count = Count::default();
+        let mut count = Count::of(kernel);
         let mut numbers = from..to;
         while !numbers.is_empty() {
             let words: Vec<(u32, u32)> = numbers.by_ref().take(STRIP).map(|i| self.at(i, &mut random)).collect();
@@ -151,7 +188,9 @@ fn try_words(kernel: &Kernel, words: &[(u32, u32)], count: &mut Count) {
         if expected == Some(NAN as u64) {
             if let Some(theirs) = kernel.built(a, b) {
                 count.built += 1;
-                count.first_built.get_or_insert_with(|| (Trial { asked: kernel.asked(a, b), expected, ours }, theirs));
+                if count.first_built.is_none() {
+                    count.first_built = Some((count.trial(kernel.asked(a, b), expected, ours), theirs));
+                }
             }
         }
     }
@@ -184,10 +223,12 @@ pub fn sweep(kernel: &Kernel, every: bool) -> Count {
     });
     let mut blocks = found.into_inner().unwrap();
     blocks.sort_unstable_by_key(|(from, _)| *from);
-    blocks.iter().fold(Count::default(), |mut sum, (_, count)| {
-        sum.add(count);
-        sum
-    })
+    let mut sum = Count::of(kernel);
+    blocks.iter().for_each(|(_, count)| sum.add(count));
+    if plan.every {
+        sum.judge_marks(&kernel.label());
+    }
+    sum
 }
 
 /// A line that is written over on a terminal, and now and then a new one elsewhere; a run of a moment has none.

@@ -122,6 +122,26 @@ enum dampmeadow_refusal {                  /* looked at    given when           
     DAMPMEADOW_LENGTHS = 10                /* before 6     the lists of a strip have not all one length               */
 };
 
+/* ---- The marks
+ *
+ * Raw floor and ceil go through a cast to a 32-bit integer, and a mark says what that cast did to its number. It is given by
+ * dampmeadow_floor_marked and dampmeadow_ceil_marked, beside the answer, and by no other call. A mark is no refusal: whichever
+ * it is, there is an answer, and there are no marks but these five. With 0 and 1 the answer is the true floor or ceil, a zero
+ * from floor +0 and from ceil -0. With 2 and 3 the cast stopped at an end of its range, and the answer is 2^31 or -2^31: right
+ * where x is that number itself, and wrong for every other. With 4 it is a zero, +0 from floor and -0 from ceil.
+ *
+ * floor casts x. ceil casts -x and turns the sign of what comes of it, and its mark is that of the cast of -x. So of an x above
+ * 2^31 floor's mark is "clipped high" and ceil's "clipped low", and of one below -2^31 it is the other way round. Of 2^31
+ * itself floor's is "clipped high" and ceil's "exact", and of -2^31 floor's is "exact" and ceil's "clipped high".
+ */
+enum dampmeadow_mark {           /* the number that is cast                        the integer                     */
+    DAMPMEADOW_EXACT = 0,        /* whole, from -2^31 and under 2^31; 0, -0 too    the number itself               */
+    DAMPMEADOW_DROPPED = 1,      /* not whole, from -2^31 and under 2^31           the number without its fraction */
+    DAMPMEADOW_CLIPPED_HIGH = 2, /* 2^31 or above, infinity too                    2^31 - 1                        */
+    DAMPMEADOW_CLIPPED_LOW = 3,  /* below -2^31, -infinity too                     -2^31                           */
+    DAMPMEADOW_NOT_A_NUMBER = 4  /* a NaN                                          0                               */
+};
+
 /* ---- The calls */
 
 /* Calls an operation by its number.
@@ -192,6 +212,37 @@ uint32_t dampmeadow_atan_norm(uint32_t a);
  */
 uint32_t dampmeadow_parts(uint32_t a, uint32_t *whole, uint32_t *rest);
 
+/* Raw floor, and the mark of the cast that it makes, which is of x. It has no operation number.
+ *
+ * In:   a, the operand's word; any word.
+ * Back: the mark in the high 32 bits and the answer's word in the low 32. The word is what dampmeadow_words gives for
+ *       DAMPMEADOW_RAW + DAMPMEADOW_FLOOR. Nothing is refused: a mark other than 0 leaves the word as it is.
+ *
+ *   dampmeadow_floor_marked(0xc0400000) == 0xc0400000       of -3: exact, and -3
+ *   dampmeadow_floor_marked(0xbf000000) == 0x1bf800000      of -0.5: fraction dropped, and -1
+ *   dampmeadow_floor_marked(0x4f32d05e) == 0x24f000000      of 3e9: clipped high, and 2^31, which is too low
+ *   dampmeadow_floor_marked(0x4f000000) == 0x24f000000      of 2^31: clipped high, and 2^31, which is right
+ *   dampmeadow_floor_marked(0xcf32d05e) == 0x3cf000000      of -3e9: clipped low, and -2^31, which is too high
+ *   dampmeadow_floor_marked(0x7fc00000) == 0x400000000      of a NaN: not a number, and 0
+ */
+uint64_t dampmeadow_floor_marked(uint32_t a);
+
+/* Raw ceil, and the mark of the cast that it makes, which is of -x: "clipped high" is of an x that is low, and "clipped low" of
+ * one that is high. It has no operation number.
+ *
+ * In:   a, the operand's word; any word.
+ * Back: the mark in the high 32 bits and the answer's word in the low 32. The word is what dampmeadow_words gives for
+ *       DAMPMEADOW_RAW + DAMPMEADOW_CEIL. Nothing is refused: a mark other than 0 leaves the word as it is.
+ *
+ *   dampmeadow_ceil_marked(0xc0400000) == 0xc0400000        of -3: exact, and -3
+ *   dampmeadow_ceil_marked(0xbf000000) == 0x180000000       of -0.5: fraction dropped, and -0
+ *   dampmeadow_ceil_marked(0x4f32d05e) == 0x34f000000       of 3e9: clipped low, and 2^31, which is too low
+ *   dampmeadow_ceil_marked(0x4f000000) == 0x4f000000        of 2^31: exact, and 2^31
+ *   dampmeadow_ceil_marked(0xcf000000) == 0x2cf000000       of -2^31: clipped high, and -2^31, which is right
+ *   dampmeadow_ceil_marked(0x7fc00000) == 0x480000000       of a NaN: not a number, and -0
+ */
+uint64_t dampmeadow_ceil_marked(uint32_t a);
+
 /* The bytes of an answer to a frame. */
 #define DAMPMEADOW_ANSWER_LENGTH 11
 
@@ -232,6 +283,12 @@ static inline float dampmeadow_float(uint32_t word)
 
 /* The refusal of a call, 0 where it answered: dampmeadow_refusal_of(0x300000000) == DAMPMEADOW_NEGATIVE */
 static inline uint32_t dampmeadow_refusal_of(uint64_t answer)
+{
+    return (uint32_t)(answer >> 32);
+}
+
+/* The mark of a marked call, which is no refusal: dampmeadow_mark_of(0x1bf800000) == DAMPMEADOW_DROPPED */
+static inline uint32_t dampmeadow_mark_of(uint64_t answer)
 {
     return (uint32_t)(answer >> 32);
 }

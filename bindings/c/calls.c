@@ -5,7 +5,7 @@
 
 static int tried, wrong;
 
-/* One answer, refusal above word, beside the one that is due. */
+/* One answer, refusal or mark above word, beside the one that is due. */
 static void hold(const char *what, uint64_t answer, uint64_t due)
 {
     tried++;
@@ -32,6 +32,16 @@ static void parts(const char *what, uint32_t a, uint32_t refusal, uint32_t whole
     hold(what, dampmeadow_parts(a, &w, &r), refusal);
     hold(what, w, whole);
     hold(what, r, rest);
+}
+
+/* Raw floor and ceil of a word, each with its mark, and then by number: the words have to be the same. */
+static void marks(const char *what, uint32_t a, uint32_t floor_mark, uint32_t floor_word, uint32_t ceil_mark,
+                  uint32_t ceil_word)
+{
+    hold(what, dampmeadow_floor_marked(a), (uint64_t)floor_mark << 32 | floor_word);
+    hold(what, dampmeadow_words(DAMPMEADOW_RAW + DAMPMEADOW_FLOOR, a, 0), floor_word);
+    hold(what, dampmeadow_ceil_marked(a), (uint64_t)ceil_mark << 32 | ceil_word);
+    hold(what, dampmeadow_words(DAMPMEADOW_RAW + DAMPMEADOW_CEIL, a, 0), ceil_word);
 }
 
 /* A place of a strip before the call: 99 is no refusal. */
@@ -171,6 +181,28 @@ int main(void)
     parts("the parts of 2^32", 0x4f800000, DAMPMEADOW_OUTSIDE, 0, 0);
     parts("the parts of a NaN", nan, DAMPMEADOW_NOT_FINITE, 0, 0);
 
+    const uint32_t exact = DAMPMEADOW_EXACT, dropped = DAMPMEADOW_DROPPED, high = DAMPMEADOW_CLIPPED_HIGH;
+    const uint32_t low = DAMPMEADOW_CLIPPED_LOW, no_number = DAMPMEADOW_NOT_A_NUMBER;
+    marks("the marks of 0", 0x00000000, exact, 0x00000000, exact, 0x80000000);
+    marks("the marks of -0", 0x80000000, exact, 0x00000000, exact, 0x80000000);
+    marks("the marks of the smallest", 0x00000001, dropped, 0x00000000, dropped, 0x3f800000);
+    marks("the marks of the smallest below 0", 0x80000001, dropped, 0xbf800000, dropped, 0x80000000);
+    marks("the marks of 0.5", 0x3f000000, dropped, 0x00000000, dropped, 0x3f800000);
+    marks("the marks of -0.5", 0xbf000000, dropped, 0xbf800000, dropped, 0x80000000);
+    marks("the marks of 2.5", 0x40200000, dropped, 0x40000000, dropped, 0x40400000);
+    marks("the marks of -3", 0xc0400000, exact, 0xc0400000, exact, 0xc0400000);
+    marks("the marks of the last below 2^31", 0x4effffff, exact, 0x4effffff, exact, 0x4effffff);
+    marks("the marks of 2^31", 0x4f000000, high, 0x4f000000, exact, 0x4f000000);
+    marks("the marks of the first above 2^31", 0x4f000001, high, 0x4f000000, low, 0x4f000000);
+    marks("the marks of -2^31", 0xcf000000, exact, 0xcf000000, high, 0xcf000000);
+    marks("the marks of the first below -2^31", 0xcf000001, low, 0xcf000000, high, 0xcf000000);
+    marks("the marks of 3e9", 0x4f32d05e, high, 0x4f000000, low, 0x4f000000);
+    marks("the marks of -3e9", 0xcf32d05e, low, 0xcf000000, high, 0xcf000000);
+    marks("the marks of infinity", 0x7f800000, high, 0x4f000000, low, 0x4f000000);
+    marks("the marks of -infinity", 0xff800000, low, 0xcf000000, high, 0xcf000000);
+    marks("the marks of a NaN", nan, no_number, 0x00000000, no_number, 0x80000000);
+    marks("the marks of a NaN with a sign", 0xffc00001, no_number, 0x00000000, no_number, 0x80000000);
+
     const size_t all[4] = {3, 3, 3, 3}, two[4] = {2, 2, 2, 2}, none[4] = {0, 0, 0, 0};
     const uint32_t powers[3] = {(uint32_t)-1, (uint32_t)-1048577, 1};
     const uint64_t roots[3] = {0x40000000, 0x300000000, 0}, fewer[3] = {0x40000000, 0x300000000, UNTOUCHED};
@@ -207,6 +239,7 @@ int main(void)
     line("094080000000000000", 10, DAMPMEADOW_NO_ROOM, "");
 
     hold("the refusal of an answer", dampmeadow_refusal_of(0x300000000), DAMPMEADOW_NEGATIVE);
+    hold("the mark of an answer", dampmeadow_mark_of(0x1bf800000), DAMPMEADOW_DROPPED);
     hold("the word of an answer", dampmeadow_word_of(0x340000000), 0x40000000);
 
     printf("C: %d tried, %d wrong\n", tried, wrong);

@@ -37,6 +37,20 @@ void parts(const char *what, float x, uint32_t refusal, float whole, float rest)
     hold(what, {got, dampmeadow_float(r)}, {refusal, rest});
 }
 
+// An answer that has a mark beside it. The words are compared, since a zero's sign is part of it.
+void marked(const char *what, uint64_t packed, uint32_t mark, float number)
+{
+    tried++;
+    const uint32_t got = dampmeadow_mark_of(packed), word = dampmeadow_word_of(packed);
+    if (got == mark && word == dampmeadow_bits(number)) return;
+    wrong++;
+    std::printf("%s: mark %u, %.9g, and mark %u, %.9g is due\n", what, unsigned(got), double(dampmeadow_float(word)), unsigned(mark), double(number));
+}
+
+void floors(const char *what, float x, uint32_t mark, float number) { marked(what, dampmeadow_floor_marked(dampmeadow_bits(x)), mark, number); }
+
+void ceils(const char *what, float x, uint32_t mark, float number) { marked(what, dampmeadow_ceil_marked(dampmeadow_bits(x)), mark, number); }
+
 // The words of some floats, and one word more, which is not lent: an empty vector may have NULL for its data.
 std::vector<uint32_t> words(const std::vector<float> &numbers)
 {
@@ -100,6 +114,18 @@ int main()
     hold("atan_norm 1", {0, dampmeadow_float(dampmeadow_atan_norm(0x3f800000))}, {0, 0.5f});
     parts("the parts of -2.5", -2.5f, DAMPMEADOW_ANSWERED, -2.0f, -0.5f);
     parts("the parts of 1e10", 1e10f, DAMPMEADOW_OUTSIDE, 0.0f, 0.0f);
+    const float end = 2147483648.0f; // 2^31
+    floors("floor -0.5, marked", -0.5f, DAMPMEADOW_DROPPED, -1.0f);
+    ceils("ceil -0.5, marked", -0.5f, DAMPMEADOW_DROPPED, -0.0f);
+    floors("floor -0, marked", -0.0f, DAMPMEADOW_EXACT, 0.0f);
+    floors("floor 2^31, marked", end, DAMPMEADOW_CLIPPED_HIGH, end);
+    ceils("ceil 2^31, marked", end, DAMPMEADOW_EXACT, end);
+    floors("floor -2^31, marked", -end, DAMPMEADOW_EXACT, -end);
+    ceils("ceil -2^31, marked", -end, DAMPMEADOW_CLIPPED_HIGH, -end);
+    floors("floor -3e9, marked", -3e9f, DAMPMEADOW_CLIPPED_LOW, -end);
+    ceils("ceil 3e9, marked", 3e9f, DAMPMEADOW_CLIPPED_LOW, end);
+    floors("floor of a NaN, marked", dampmeadow_float(0x7fc00000), DAMPMEADOW_NOT_A_NUMBER, 0.0f);
+    ceils("ceil of a NaN, marked", dampmeadow_float(0x7fc00000), DAMPMEADOW_NOT_A_NUMBER, -0.0f);
     const std::vector<float> film = {4.0f, -1.0f, 0.0f}, slopes = {1.5f, -1.5f, -0.0f, -1e-40f, -1e38f};
     strip("a strip of sqrt", DAMPMEADOW_SQRT, film, film, DAMPMEADOW_ANSWERED, {{0, 2.0f}, {DAMPMEADOW_NEGATIVE, 0.0f}, {0, 0.0f}});
     strip("a strip of ln", DAMPMEADOW_LN, {0.0f, 1e-40f, -1e-40f}, film, DAMPMEADOW_ANSWERED, {{DAMPMEADOW_ZERO, 0.0f}, {DAMPMEADOW_SMALL, 0.0f}, {DAMPMEADOW_SMALL, 0.0f}});

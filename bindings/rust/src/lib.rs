@@ -21,8 +21,9 @@
 //!
 //! The kernels are those of micromath, to the bit, but that [`sqrt`] of a zero is that zero: most are quick estimates, some of
 //! them percents off. [`raw`] gives what micromath gives for every word, NaN and infinity among them, but for five cases that
-//! docs/DIFFERENCES.md lists. [`call`] takes any operation by its number, [`strip`] the same over whole lists, and [`answer`]
-//! a frame, which is a line of text. Nothing is kept between calls, so they may be made from any thread.
+//! docs/DIFFERENCES.md lists. [`raw_floor_marked`] and [`raw_ceil_marked`] give a [`Mark`] beside that, which says what their
+//! cast to an integer did to the number. [`call`] takes any operation by its number, [`strip`] the same over whole lists, and
+//! [`answer`] a frame, which is a line of text. Nothing is kept between calls, so they may be made from any thread.
 //!
 //! The build script finds the library, or proves and builds it, which takes a minute or two the first time; where it cannot, it
 //! says what is missing. The library asks for one function from outside, `fmodf`: it is Rust's own where Rust brings one, and
@@ -32,11 +33,13 @@
 #![deny(unsafe_op_in_unsafe_fn)]
 
 mod kernels;
+mod mark;
 mod operation;
 mod refusal;
 mod strip;
 
 pub use kernels::*;
+pub use mark::Mark;
 pub use operation::Operation;
 pub use refusal::Refusal;
 pub use strip::{bits, bits_mut, powers, strip};
@@ -63,6 +66,8 @@ mod exported {
         pub fn dampmeadow_atan_norm(a: u32) -> u32;
         pub fn dampmeadow_atan_norm_guarded(a: u32) -> u64;
         pub fn dampmeadow_parts(a: u32, whole: *mut u32, rest: *mut u32) -> u32;
+        pub fn dampmeadow_floor_marked(a: u32) -> u64;
+        pub fn dampmeadow_ceil_marked(a: u32) -> u64;
     }
 }
 
@@ -74,6 +79,16 @@ fn judged<T>(number: u32, answer: T) -> Result<T, Refusal> {
 /// A refusal in the high 32 bits, and a word in the low 32.
 fn unpacked(packed: u64) -> Result<u32, Refusal> {
     judged((packed >> 32) as u32, packed as u32)
+}
+
+/// A mark in the high 32 bits, and a word in the low 32.
+fn marked(packed: u64) -> (u32, Mark) {
+    let number = (packed >> 32) as u32;
+    match Mark::from_number(number) {
+        Some(mark) => (packed as u32, mark),
+        // the library gives no other number; of one from elsewhere, whatever mark is put here might be untrue
+        None => unreachable!("the library gave mark {number}, and there are only 0 to 4"),
+    }
 }
 
 /// Calls an operation, guarded or raw, by its number in a frame: words in, a word out. Every number and all words may be asked
@@ -154,6 +169,49 @@ pub fn parts(x: f32) -> Result<(f32, f32), Refusal> {
     // SAFETY: the two places are this function's own and apart; the call writes a word to each, and keeps neither.
     let refusal = unsafe { exported::dampmeadow_parts(x.to_bits(), &mut whole, &mut rest) };
     judged(refusal, (f32::from_bits(whole), f32::from_bits(rest)))
+}
+
+/// Raw floor with the mark of the cast that it makes, which is of x: any word in, the word that [`raw`] gives and the mark out,
+/// and no refusal. It has no operation number.
+///
+/// With [`Mark::Exact`] and [`Mark::Dropped`] the word is the largest whole number that is not above x; a zero is +0. With
+/// [`Mark::High`] it is 2^31, which is right for 2^31 itself alone, and with [`Mark::Low`] -2^31, which is too high. With
+/// [`Mark::NotANumber`] it is +0.
+///
+/// ```
+/// use dampmeadow::{raw_floor_marked, Mark};
+/// assert_eq!(raw_floor_marked((-3.0f32).to_bits()), ((-3.0f32).to_bits(), Mark::Exact));
+/// assert_eq!(raw_floor_marked((-0.5f32).to_bits()), ((-1.0f32).to_bits(), Mark::Dropped));
+/// // the cast stops short of 3e9, and at 2^31 the answer is right all the same
+/// assert_eq!(raw_floor_marked(3.0e9f32.to_bits()), (0x4f000000, Mark::High));
+/// assert_eq!(raw_floor_marked(0x4f000000), (0x4f000000, Mark::High));
+/// assert_eq!(raw_floor_marked(0x7fc00000), (0, Mark::NotANumber));
+/// ```
+pub fn raw_floor_marked(a: u32) -> (u32, Mark) {
+    // SAFETY: as in `call`.
+    marked(unsafe { exported::dampmeadow_floor_marked(a) })
+}
+
+/// Raw ceil with the mark of the cast that it makes, which is of -x: any word in, the word that [`raw`] gives and the mark out,
+/// and no refusal. It has no operation number.
+///
+/// With [`Mark::Exact`] and [`Mark::Dropped`] the word is the smallest whole number that is not below x; a zero is -0. With
+/// [`Mark::High`], for an x from -2^31 down, it is -2^31, which is right for -2^31 itself alone, and with [`Mark::Low`], for an
+/// x above 2^31, it is 2^31, which is too low. With [`Mark::NotANumber`] it is -0.
+///
+/// ```
+/// use dampmeadow::{raw_ceil_marked, Mark};
+/// assert_eq!(raw_ceil_marked((-3.0f32).to_bits()), ((-3.0f32).to_bits(), Mark::Exact));
+/// assert_eq!(raw_ceil_marked((-0.5f32).to_bits()), ((-0.0f32).to_bits(), Mark::Dropped));
+/// // -3e9 is what is cast
+/// assert_eq!(raw_ceil_marked(3.0e9f32.to_bits()), (0x4f000000, Mark::Low));
+/// assert_eq!(raw_ceil_marked(0x4f000000), (0x4f000000, Mark::Exact));
+/// assert_eq!(raw_ceil_marked(0xcf000000), (0xcf000000, Mark::High));
+/// assert_eq!(raw_ceil_marked(0x7fc00000), (0x80000000, Mark::NotANumber));
+/// ```
+pub fn raw_ceil_marked(a: u32) -> (u32, Mark) {
+    // SAFETY: as in `call`.
+    marked(unsafe { exported::dampmeadow_ceil_marked(a) })
 }
 
 /// Answers a frame, given as a line without its newline: [`ANSWER_LENGTH`] bytes at the front of the space, the refusal in two

@@ -18,7 +18,7 @@ use Rattle.format.specs.Meaning.{To31, IsFloor, IsCeil}
 use Rattle.format.proofs.Nan.{finite-number}
 use Rattle.format.proofs.Sign.{turned-magnitude, turned-lt}
 use Rattle.format.proofs.FloorMeaning.{floor-is, ceil-is}
-use Rattle.format.proofs.CastMeaning.{whole-below-one, whole-from-one, within-range, past-high, past-low, nothing-told, clipped-told, kept-told, cut-told, kept-only, cut-only, clipped-only}
+use Rattle.format.proofs.CastMeaning.{whole-below-one, whole-from-one, within-range, past-high, past-low, nothing-told, clipped-told, kept-told, cut-told, kept-within, kept-whole, cut-within, cut-part, clipped-past}
 use Rattle.float.specs.declared.mark.Mark.{Mark}
 use Rattle.float.specs.declared.mark.Mark.the-variants.{Exact, Dropped, High, Low, NotANumber}
 use Rattle.float.specs.Marks.{markOf, numberOf, Tells}
@@ -45,10 +45,10 @@ told w {z} e d = (e, (d, subst (λ (n : Mark). Tells n w z) (sym d) (subst (λ (
 
 -- no other mark does
 pub one-mark : (m : Mark) (w : ℕ) → Tells m w (toSigned 31 (ofBits binary32 w)) → m ≡ markOf w
-one-mark Exact w c = let k = kept-only binary32 31 w c in sym (rw (finite-number binary32 w (c .finite), k .0, k .1))
-one-mark Dropped w c = let k = cut-only binary32 31 w c in sym (rw (finite-number binary32 w (c .finite), k .0, k .1))
-one-mark High w c = sym (rw (c .number, clipped-only binary32 31 w c, c .side))
-one-mark Low w c = sym (rw (c .number, clipped-only binary32 31 w c, c .side))
+one-mark Exact w c = sym (rw (finite-number binary32 w (c .finite), kept-within binary32 31 w c, kept-whole binary32 w c))
+one-mark Dropped w c = sym (rw (finite-number binary32 w (c .finite), cut-within binary32 31 w c, cut-part binary32 w c))
+one-mark High w c = sym (rw (c .number, clipped-past binary32 31 w c, c .side))
+one-mark Low w c = sym (rw (c .number, clipped-past binary32 31 w c, c .side))
 one-mark NotANumber w c = sym (rw (c .nan))
 
 -- ---- the mark by the fields

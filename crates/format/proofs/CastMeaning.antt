@@ -181,38 +181,41 @@ module _ (f : Format) (h w : ℕ) where
       rest = omega (arith, eqb-false (units f w % 2 ^ low f) 0 e);
     }
 
-  -- ---- and back: what the integer is to the word tells the tests
+-- ---- and back: what the integer is to the word tells the tests
 
-  past-size : isPast f h w ≡ true → Finite f w → (natAbs (toSigned h (ofBits f w)) ≡ lastSize h (negative f w)) × (lastSize h (negative f w) < units f w / 2 ^ low f)
-  past-size p k =
-      let s = negative f w in
-      let c = clipped-told (finite-number f w k) p in
-      (ap natAbs (c .end) ∙ size-is s (lastSize h s), le-div-iff-mul-le (pow-pos (low f)) .1 (c .past k))
+-- a finite number whose whole part is the integer's size is not past the end
+not-past : (f : Format) (h w : ℕ) → Finite f w → natAbs (toSigned h (ofBits f w)) ≡ units f w / 2 ^ low f → isPast f h w ≡ false
+not-past f h w k e = go (isPast f h w) refl
+  where
+    s : Bool
+    s = negative f w
 
-  -- a finite number whose whole part is the integer's size is not past the end
-  not-past : Finite f w → natAbs (toSigned h (ofBits f w)) ≡ units f w / 2 ^ low f → isPast f h w ≡ false
-  not-past k e = go (isPast f h w) refl
-    where
-      go : (b : Bool) → isPast f h w ≡ b → b ≡ false
-      go false p = refl
-      go true p = let q = past-size p k in absurd (ne-of-lt (q .1) (sym (q .0) ∙ e))
+    go : (b : Bool) → isPast f h w ≡ b → b ≡ false
+    go false p = refl
+    go true p =
+        let c = clipped-told f h w (finite-number f w k) p in
+        let l : lastSize h s < units f w / 2 ^ low f = le-div-iff-mul-le (pow-pos (low f)) .1 (c .past k) in
+        absurd (ne-of-lt l (sym (ap natAbs (c .end) ∙ size-is s (lastSize h s)) ∙ e))
 
-  pub kept-only : IsKept f w (toSigned h (ofBits f w)) → (isPast f h w ≡ false) × (isWhole f w ≡ true)
-  kept-only c =
-      let n = natAbs (toSigned h (ofBits f w)) in (
-        not-past (c .finite) (sym (mul-div-cancel n (pow-pos (low f))) ∙ ap (λ (u : ℕ). u / 2 ^ low f) (c .same)),
-        eq-eqb _ 0 (ap (λ (u : ℕ). u % 2 ^ low f) (sym (c .same)) ∙ mul-mod-left n (2 ^ low f)),
-      )
+pub kept-within : (f : Format) (h w : ℕ) → IsKept f w (toSigned h (ofBits f w)) → isPast f h w ≡ false
+kept-within f h w c =
+    not-past f h w (c .finite) (sym (mul-div-cancel (natAbs (toSigned h (ofBits f w))) (pow-pos (low f))) ∙ ap (λ (u : ℕ). u / 2 ^ low f) (c .same))
 
-  pub cut-only : IsCut f w (toSigned h (ofBits f w)) → (isPast f h w ≡ false) × (isWhole f w ≡ false)
-  cut-only c = (not-past (c .finite) (c .whole), ne-eqb _ 0 (ne-of-gt (c .rest)))
+pub kept-whole : (f : Format) (w : ℕ) {z : ℤ} → IsKept f w z → isWhole f w ≡ true
+kept-whole f w {z} c = eq-eqb _ 0 (ap (λ (u : ℕ). u % 2 ^ low f) (sym (c .same)) ∙ mul-mod-left (natAbs z) (2 ^ low f))
 
-  pub clipped-only : {s : Bool} {z : ℤ} → IsClipped f h s w z → isPast f h w ≡ true
-  clipped-only {s} c = go (isEndless f w) refl
-    where
-      go : (b : Bool) → isEndless f w ≡ b → (b || ltb (lastSize h (negative f w)) (units f w / 2 ^ low f)) ≡ true
-      go true e = refl
-      go false e = rw (c .side) (lt-ltb (lastSize h s) _ (le-div-iff-mul-le (pow-pos (low f)) .1 (c .past (finite-of f w e))))
+pub cut-within : (f : Format) (h w : ℕ) → IsCut f w (toSigned h (ofBits f w)) → isPast f h w ≡ false
+cut-within f h w c = not-past f h w (c .finite) (c .whole)
+
+pub cut-part : (f : Format) (w : ℕ) {z : ℤ} → IsCut f w z → isWhole f w ≡ false
+cut-part f w c = ne-eqb _ 0 (ne-of-gt (c .rest))
+
+pub clipped-past : (f : Format) (h : ℕ) {s : Bool} (w : ℕ) {z : ℤ} → IsClipped f h s w z → isPast f h w ≡ true
+clipped-past f h {s} w c = go (isEndless f w) refl
+  where
+    go : (b : Bool) → isEndless f w ≡ b → (b || ltb (lastSize h (negative f w)) (units f w / 2 ^ low f)) ≡ true
+    go true e = refl
+    go false e = rw (c .side) (lt-ltb (lastSize h s) _ (le-div-iff-mul-le (pow-pos (low f)) .1 (c .past (finite-of f w e))))
 
 -- ---- whole, and past the end of 32 bits, at the words beside each test: both zeros, the smallest numbers, 1/2, 1 and 3/2, the last with a
 -- fraction and the next, 2 ^ 31 - 1 and what follows it, 2 ^ 31, -2 ^ 31 and what follows that, the infinities. In binary64 a half may
