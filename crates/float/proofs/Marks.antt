@@ -3,22 +3,21 @@
 use Prim.Native.Nat.{ℕ, _^_, _<_, _≤_}
 use native.Mathlib.Omega.{arith}
 use mathlib.Core.Path.{_≡_, refl, sym, ap, subst, _∙_}
-use mathlib.Core.Bool.{Bool, true, false, not, cond}
+use mathlib.Core.Bool.{Bool, true, false, not, cond, _&&_, _||_}
 use borrow.Author.Tests.{leb-true, leb-false}
-use lib.Dec.{leb}
+use lib.Dec.{leb, eqb}
 use lib.IntN.{ℤ}
 use lib.Ieee.{binary32, ofBits, nanBits, toSigned}
 use Rattle.format.specs.Fields.{negative, magnitude, exponent}
 use Rattle.format.specs.Sign.{turnedWord}
 use Rattle.format.specs.Exponent.{isIntegerWord}
-use Rattle.format.specs.Classes.{isZero}
 use Rattle.format.specs.Cast.{isWhole, isPast, IsClipped}
 use Rattle.format.specs.Whole.{floorWord, ceilWord}
 use Rattle.format.specs.Meaning.{To31, IsFloor, IsCeil}
 use Rattle.format.proofs.Nan.{finite-number}
 use Rattle.format.proofs.Sign.{turned-magnitude, turned-lt}
 use Rattle.format.proofs.FloorMeaning.{floor-is, ceil-is}
-use Rattle.format.proofs.CastMeaning.{whole-below-one, whole-from-one, within-range, past-high, past-low, nothing-told, clipped-told, kept-told, cut-told, kept-within, kept-whole, cut-within, cut-part, clipped-past}
+use Rattle.format.proofs.CastMeaning.{whole-is, within-range, past-high, past-low, nothing-told, clipped-told, kept-told, cut-told, kept-within, kept-whole, cut-within, cut-part, clipped-past}
 use Rattle.float.specs.declared.mark.Mark.{Mark}
 use Rattle.float.specs.declared.mark.Mark.the-variants.{Exact, Dropped, High, Low, NotANumber}
 use Rattle.float.specs.Marks.{markOf, numberOf, Tells}
@@ -57,15 +56,12 @@ pub mark-nan : (w : ℕ) → nanBits binary32 w ≡ true → markOf w ≡ NotANu
 mark-nan w e = rw e
 
 module _ (w : ℕ) (n : nanBits binary32 w ≡ false) where
-  -- by what a test of a whole number found
-  within : {b : Bool} {m : Mark} → exponent binary32 w ≤ 157 → m ≡ cond b Exact Dropped → b ≡ isWhole binary32 w → m ≡ markOf w
-  within h e i = e ∙ ap (λ (x : Bool). cond x Exact Dropped) i ∙ sym (rw (n, within-range w h))
-
-  pub mark-below-one : {b : Bool} {m : Mark} → exponent binary32 w < 127 → m ≡ cond b Exact Dropped → b ≡ isZero binary32 w → m ≡ markOf w
-  mark-below-one h e z = within (omega arith) e (z ∙ sym (whole-below-one binary32 w h))
-
-  pub mark-from-one : {b : Bool} {m : Mark} → 127 ≤ exponent binary32 w → exponent binary32 w < 158 → m ≡ cond b Exact Dropped → b ≡ isIntegerWord binary32 w → m ≡ markOf w
-  mark-from-one l h e i = within (omega arith) e (i ∙ sym (whole-from-one binary32 w l (omega arith)))
+  -- by what the code's tests of a whole number read
+  pub mark-within : {x z : ℕ} {i : Bool} {m : Mark} → x ≡ exponent binary32 w → i ≡ isIntegerWord binary32 w → z ≡ magnitude binary32 w
+      → x < 158 → m ≡ cond ((leb 127 x && i) || eqb z 0) Exact Dropped → m ≡ markOf w
+  mark-within ex ei ez h e =
+      let l : exponent binary32 w < 158 = rw ex at h in
+      (rw (ex, ei, ez) at e) ∙ ap (λ (b : Bool). cond b Exact Dropped) (sym (whole-is binary32 w (omega arith))) ∙ sym (rw (n, within-range w (omega arith)))
 
   pub mark-high : 158 ≤ exponent binary32 w → negative binary32 w ≡ false → markOf w ≡ High
   mark-high h s = rw (n, past-high w h s, s)

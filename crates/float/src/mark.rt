@@ -71,12 +71,10 @@ fn of_cast(x: F32) -> Mark
         return Mark::NotANumber;
     }
     let exponent = x.extract_exponent_bits();
-    if exponent < F32::EXPONENT_BIAS {
-        return kept(x.without_sign().0 == 0);
-    }
-    // from 1 on the crate's test of a whole number is right
     if exponent < F32::EXPONENT_BIAS + 31 {
-        return kept(x.is_integer());
+        // the crate's own test is right from 1 on, and below 1 a zero alone is whole
+        let whole = (exponent >= F32::EXPONENT_BIAS) & x.is_integer();
+        return kept(whole | (x.without_sign().0 == 0));
     }
     if x.0 == LEAST {
         return Mark::Exact;

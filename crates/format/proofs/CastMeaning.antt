@@ -1,13 +1,13 @@
 -- What a cast to an integer did to a number: of a number within the range the integer is its whole part, and past it the last integer on
 -- its side. Which words are within it and which are whole, by the tests of their fields. Assumes nothing.
 use Prim.Native.Nat.{ℕ, zero, suc, _+_, _-_, _*_, _/_, _%_, _^_, _<_, _≤_, min}
-use native.Mathlib.Nat.{zero-mul, mul-pos, zero-lt-suc, mod-eq-of-lt, mul-mod-left, mul-div-cancel, div-add-mod', le-trans, lt-of-lt-of-le, le-of-lt, ne-of-lt, ne-of-gt, mul-le-mul-right, mul-le-mul-left, le-div-iff-mul-le, div-lt-iff-lt-mul, add-zero}
+use native.Mathlib.Nat.{zero-mul, zero-mod, mul-pos, zero-lt-suc, mod-eq-of-lt, mul-mod-left, mul-div-cancel, div-add-mod', le-trans, lt-of-lt-of-le, le-of-lt, ne-of-lt, ne-of-gt, mul-le-mul-right, mul-le-mul-left, le-div-iff-mul-le, div-lt-iff-lt-mul, add-zero}
 use native.Mathlib.Omega.{arith}
 use mathlib.Core.Path.{_≡_, refl, sym, ap, subst, _∙_}
-use mathlib.Core.Bool.{Bool, true, false, _||_, true≢false}
+use mathlib.Core.Bool.{Bool, true, false, _&&_, _||_, true≢false}
 use mathlib.Core.List.{List, [], _∷_, map}
-use borrow.Author.Tests.{ltb-true, ltb-false, lt-ltb, le-ltb, eqb-true, eqb-false, ne-eqb, eq-eqb}
-use lib.Dec.{ltb, eqb, lit<, lit≤}
+use borrow.Author.Tests.{leb-true, leb-false, ltb-true, ltb-false, lt-ltb, le-ltb, eqb-true, eqb-false, ne-eqb, eq-eqb}
+use lib.Dec.{leb, ltb, eqb, lit<, lit≤}
 use lib.IntN.{ℤ, pos, negsuc, negℤ, natAbs}
 use lib.Pow.{pow-pos, pow-add, pow-mono, shl-lt}
 use lib.Ieee.{Format, binary32, binary64, inf, prec, emax, low, hid, ones, top, ofBits, nanBits, toSigned}
@@ -27,6 +27,14 @@ use Rattle.format.proofs.Parts.{moved-up, below-lt, fraction-word}
 use Rattle.format.proofs.PartsMeaning.{InWidth, full, under-one, fract-is}
 
 -- ---- whole or not
+
+or-true : (b : Bool) → (b || true) ≡ true
+or-true true = refl
+or-true false = refl
+
+or-false : (b : Bool) → (b || false) ≡ b
+or-false true = refl
+or-false false = refl
 
 no-units-more : (b k : ℕ) → eqb (b * 2 ^ k) 0 ≡ eqb b 0
 no-units-more zero k = rw (zero-mul (2 ^ k))
@@ -50,6 +58,14 @@ whole-from-one f w e h =
     ap (λ (n : ℕ). eqb n 0) (rest-is f w e h)
     ∙ no-units-more (belowPoint f w * 2 ^ places f w) (emax f - 1)
     ∙ ap (λ (n : ℕ). eqb n 0) (sym (moved-up w (places f w) (prec f - 1)))
+
+pub whole-is : (f : Format) (w : ℕ) → InWidth f w → isWhole f w ≡ ((leb (emax f) (exponent f w) && isIntegerWord f w) || isZero f w)
+whole-is f w h = go (leb (emax f) (exponent f w)) (isZero f w) refl refl
+  where
+    go : (b z : Bool) → leb (emax f) (exponent f w) ≡ b → isZero f w ≡ z → isWhole f w ≡ ((b && isIntegerWord f w) || z)
+    go true true e z = eq-eqb (units f w % 2 ^ low f) 0 (rw (eqb-true (units f w) 0 (sym (units-zero f w) ∙ z)) (zero-mod (2 ^ low f))) ∙ sym (or-true (isIntegerWord f w))
+    go true false e z = whole-from-one f w (leb-true _ _ e) h ∙ sym (or-false (isIntegerWord f w))
+    go false z e k = whole-below-one f w (leb-false _ _ e) ∙ k
 
 -- ---- within the range or past it, by the exponent field
 
@@ -82,10 +98,6 @@ part-past (suc y) t h n =
     go : (b : Bool) → ltb y 158 ≡ b → suc (2 ^ 31) * 2 ^ 149 ≤ (2 ^ 23 + t) * 2 ^ y
     go true e = le-trans {m = (2 ^ 23 + 1) * 2 ^ 157} (lit≤ tt) (le-trans (mul-le-mul-left (2 ^ 23 + 1) (pow-mono {i = 157} {j = y} (omega arith))) (mul-le-mul-right (2 ^ y) (omega (arith, ltb-true y 158 e))))
     go false e = le-trans {m = 2 ^ 23 * 2 ^ 158} (lit≤ tt) (le-trans (mul-le-mul-left (2 ^ 23) (pow-mono (ltb-false y 158 e))) (mul-le-mul-right (2 ^ y) (omega arith)))
-
-or-true : (b : Bool) → (b || true) ≡ true
-or-true true = refl
-or-true false = refl
 
 pub past-high : (w : ℕ) → 158 ≤ exponent binary32 w → negative binary32 w ≡ false → isPast binary32 31 w ≡ true
 past-high w h s = rw (s, lt-ltb (2 ^ 31 - 1) _ (past-range (exponent binary32 w) (fraction binary32 w) h)) (or-true (isEndless binary32 w))

@@ -1,12 +1,11 @@
 -- `float::mark::of_cast` meets its contract: each return is the definition's answer once the tests before it are known. Assumes nothing.
 use borrow.Author.Needs.{needs}
-use mathlib.Core.Path.{_≡_, sym, ap, subst, _∙_}
+use mathlib.Core.Path.{_≡_, sym, subst, _∙_}
 use mathlib.Core.Bool.{false}
-use Prim.Native.Nat.{ℕ, _<_, _≤_}
-use lib.Dec.{eqb}
+use Prim.Native.Nat.{ℕ, _≤_}
 use lib.Ieee.{binary32, nanBits}
 use Rattle.format.specs.Fields.{exponent}
-use Rattle.float.proofs.Marks.{mark-nan, mark-below-one, mark-from-one, mark-least, mark-low, mark-high}
+use Rattle.float.proofs.Marks.{mark-nan, mark-within, mark-least, mark-low, mark-high}
 use Rattle.float.proofs.mark.of_cast.Statement.{statement}
 use Rattle.float.proofs.mark.of_cast.Tie as tie
 
@@ -17,9 +16,6 @@ module _ (c : tie.After-extract-exponent-bits) where
   number : nanBits binary32 word ≡ false
   number = sym (c .before .before .is-nan .ensures) ∙ c .before .if1 .left
 
-  below : {k : ℕ} → c .extract-exponent-bits .result < k → exponent binary32 word < k
-  below {k} h = subst (λ (x : ℕ). x < k) (c .extract-exponent-bits .ensures) h
-
   from : {k : ℕ} → k ≤ c .extract-exponent-bits .result → k ≤ exponent binary32 word
   from {k} h = subst (λ (x : ℕ). k ≤ x) (c .extract-exponent-bits .ensures) h
 
@@ -29,28 +25,24 @@ of-cast-spec =
     (λ c κs. search needs)
     (λ c. sym (mark-nan _ (sym (c .before .is-nan .ensures) ∙ c .if1 .taken)))
     (λ c κs. search needs)
+    (λ c. search needs)
+    (λ c κs. search needs)
     (λ c κs. search needs)
     (λ c κs. search needs)
     (λ c.
     let sized = c .before .before in
-    let at = sized .before .before in
-    mark-below-one (word at) (number at) (below at (sized .before .if2 .taken)) (c .kept .ensures) (ap (λ (n : ℕ). eqb n 0) (sized .without-sign .ensures)))
-    (λ c. search needs)
-    (λ c κs. search needs)
-    (λ c κs. search needs)
-    (λ c.
-    let tested = c .before .before in
+    let tested = sized .before in
     let at = tested .before .before in
-    mark-from-one (word at) (number at) (from at (tested .before .if2 .left)) (below at (tested .if3 .taken)) (c .kept2 .ensures) (c .before .is-integer .ensures))
-    (λ c. sym (mark-least _ (c .if4 .taken)))
+    mark-within (word at) (number at) (at .extract-exponent-bits .ensures) (tested .is-integer .ensures) (sized .without-sign .ensures) (tested .before .if2 .taken) (c .kept .ensures))
+    (λ c. sym (mark-least _ (c .if3 .taken)))
     (λ c κs. search needs)
     (λ c.
     let other = c .before .before in
     let past = other .before .before in
-    let at = past .before .before in
-    sym (mark-low (word at) (number at) (other .before .struct-known2 .given .0 .fits) (from at (past .if3 .left)) (sym (c .before .is-sign-negative .ensures) ∙ c .if5 .taken) (other .if4 .left)))
+    let at = past .before in
+    sym (mark-low (word at) (number at) (other .before .struct-known2 .given .0 .fits) (from at (past .if2 .left)) (sym (c .before .is-sign-negative .ensures) ∙ c .if4 .taken) (other .if3 .left)))
     (λ c.
     let past = c .before .before .before .before in
-    let at = past .before .before in
-    sym (mark-high (word at) (number at) (from at (past .if3 .left)) (sym (c .before .is-sign-negative .ensures) ∙ c .if5 .left))) in
+    let at = past .before in
+    sym (mark-high (word at) (number at) (from at (past .if2 .left)) (sym (c .before .is-sign-negative .ensures) ∙ c .if4 .left))) in
     tie.close met
