@@ -2,7 +2,7 @@
 -- that the contracts cite. And wrong marks that what a mark tells rules out. Assumes nothing.
 use Prim.Native.Nat.{ℕ, _-_, _^_}
 use native.Mathlib.Omega.{arith}
-use mathlib.Core.Path.{_≡_, refl, ap, _∙_}
+use mathlib.Core.Path.{_≡_, refl, ap}
 use mathlib.Core.List.{List, [], _∷_, map}
 use lib.IntN.{ℤ, pos, negsuc}
 use lib.Ieee.{binary32, add, sub, lt, nanBits, ofBits, toBits, ofInt, toSigned}
@@ -30,7 +30,7 @@ cases =
     -- both zeros
     at 0x0000_0000 Exact (pos 0) 0x0000_0000 Exact 0x8000_0000
     ∷ at 0x8000_0000 Exact (pos 0) 0x0000_0000 Exact 0x8000_0000
-    -- the smallest numbers, the last that are not normal, and a half
+    -- the smallest numbers, the last below 0 that is not normal, and a half
     ∷ at 0x0000_0001 Dropped (pos 0) 0x0000_0000 Dropped 0x3f80_0000
     ∷ at 0x8000_0001 Dropped (pos 0) 0xbf80_0000 Dropped 0x8000_0000
     ∷ at 0x807f_ffff Dropped (pos 0) 0xbf80_0000 Dropped 0x8000_0000
@@ -44,7 +44,7 @@ cases =
     ∷ at 0xc040_0000 Exact (negsuc 2) 0xc040_0000 Exact 0xc040_0000
     -- the last with a fraction, and the next
     ∷ at 0x4aff_ffff Dropped (pos 8388607) 0x4aff_fffe Dropped 0x4b00_0000
-    ∷ at 0x4b00_0001 Exact (pos 8388609) 0x4b00_0001 Exact 0x4b00_0001
+    ∷ at 0x4b00_0000 Exact (pos 8388608) 0x4b00_0000 Exact 0x4b00_0000
     -- about 2 ^ 31
     ∷ at 0x4eff_ffff Exact (pos 2147483520) 0x4eff_ffff Exact 0x4eff_ffff
     ∷ at 0x4f00_0000 High (pos 2147483647) 0x4f00_0000 Exact 0x4f00_0000

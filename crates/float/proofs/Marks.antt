@@ -96,5 +96,5 @@ clear-to31 w l h = go (leb (magnitude binary32 w) 0x4f00_0000) refl
 pub clear-floor : (w : ℕ) → w < 2 ^ 32 → numberOf (markOf w) ≤ 1 → IsFloor binary32 w (floorWord binary32 w)
 clear-floor w l h = floor-is w (clear-to31 w l h)
 
-pub clear-ceil : (w : ℕ) → w < 2 ^ 32 → numberOf (markOf (turnedWord binary32 w)) ≤ 1 → IsCeil binary32 w (ceilWord binary32 w)
-clear-ceil w l h = ceil-is w (rw (turned-magnitude binary32 w) at (clear-to31 (turnedWord binary32 w) (turned-lt binary32 w (not (negative binary32 w))) h))
+pub clear-ceil : (w : ℕ) → numberOf (markOf (turnedWord binary32 w)) ≤ 1 → IsCeil binary32 w (ceilWord binary32 w)
+clear-ceil w h = ceil-is w (rw (turned-magnitude binary32 w) at (clear-to31 (turnedWord binary32 w) (turned-lt binary32 w (not (negative binary32 w))) h))

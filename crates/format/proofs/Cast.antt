@@ -33,7 +33,7 @@ word-cast f h w p = value-cast h (ofBits f w) (negative f w) (units f w) (2 ^ lo
 
 -- ---- binary32 to a 32-bit integer
 
-nan-cast : (h : ℕ) (x : Float) → x ≡ nan → toSigned h x ≡ pos 0
+pub nan-cast : (h : ℕ) (x : Float) → x ≡ nan → toSigned h x ≡ pos 0
 unfolding toSigned
 nan-cast h x e = rw e
 

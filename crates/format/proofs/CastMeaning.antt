@@ -4,37 +4,29 @@ use Prim.Native.Nat.{ℕ, zero, suc, _+_, _-_, _*_, _/_, _%_, _^_, _<_, _≤_, m
 use native.Mathlib.Nat.{zero-mul, zero-mod, mul-pos, zero-lt-suc, mod-eq-of-lt, mul-mod-left, mul-div-cancel, div-add-mod', le-trans, lt-of-lt-of-le, le-of-lt, ne-of-lt, ne-of-gt, mul-le-mul-right, mul-le-mul-left, le-div-iff-mul-le, div-lt-iff-lt-mul, add-zero}
 use native.Mathlib.Omega.{arith}
 use mathlib.Core.Path.{_≡_, refl, sym, ap, subst, _∙_}
-use mathlib.Core.Bool.{Bool, true, false, _&&_, _||_, true≢false}
+use mathlib.Core.Bool.{Bool, true, false, _&&_, _||_, or-true, or-false, true≢false}
 use mathlib.Core.List.{List, [], _∷_, map}
 use borrow.Author.Tests.{leb-true, leb-false, ltb-true, ltb-false, lt-ltb, le-ltb, eqb-true, eqb-false, ne-eqb, eq-eqb}
 use lib.Dec.{leb, ltb, eqb, lit<, lit≤}
-use lib.IntN.{ℤ, pos, negsuc, negℤ, natAbs}
+use lib.IntN.{ℤ, natAbs}
 use lib.Pow.{pow-pos, pow-add, pow-mono, shl-lt}
-use lib.Ieee.{Format, binary32, binary64, inf, prec, emax, low, hid, ones, top, ofBits, nanBits, toSigned}
+use lib.Ieee.{Format, binary32, binary64, inf, prec, emax, low, hid, ones, ofBits, nanBits, toSigned}
 use lib.Ieee.Fits.{two}
-use Rattle.format.specs.Fields.{negative, exponent, fraction, signBit}
+use Rattle.format.specs.Fields.{negative, exponent, fraction}
 use Rattle.format.specs.Exponent.{places, isIntegerWord}
 use Rattle.format.specs.Value.{unitsAt, units, Finite}
 use Rattle.format.specs.Classes.{isEndless, isZero}
-use Rattle.format.specs.Parts.{belowPoint, fractWord}
+use Rattle.format.specs.Parts.{belowPoint}
 use Rattle.format.specs.Cast.{isWhole, lastSize, isPast, signed, IsKept, IsCut, IsClipped, IsNothing}
 use Rattle.format.proofs.Fields.{fraction-lt, three-fields}
 use Rattle.format.proofs.Nan.{nan-read, inf-read, finite-number}
 use Rattle.format.proofs.AtLeastZero.{units-zero}
 use Rattle.format.proofs.Classes.{finite-of}
-use Rattle.format.proofs.Cast.{held, word-cast, past-range}
+use Rattle.format.proofs.Cast.{held, nan-cast, word-cast, past-range}
 use Rattle.format.proofs.Parts.{moved-up, below-lt, fraction-word}
 use Rattle.format.proofs.PartsMeaning.{InWidth, full, under-one, fract-is}
 
 -- ---- whole or not
-
-or-true : (b : Bool) → (b || true) ≡ true
-or-true true = refl
-or-true false = refl
-
-or-false : (b : Bool) → (b || false) ≡ b
-or-false true = refl
-or-false false = refl
 
 no-units-more : (b k : ℕ) → eqb (b * 2 ^ k) 0 ≡ eqb b 0
 no-units-more zero k = rw (zero-mul (2 ^ k))
@@ -92,8 +84,7 @@ within-range w h =
 part-past : (x t : ℕ) → 158 ≤ x → (x * 2 ^ 23 + t ≡ 0x4f00_0000 → ⊥) → 2 ^ 31 < unitsAt binary32 x t / 2 ^ 149
 part-past zero t h n = absurd (let z : ⊥ = omega arith in z)
 part-past (suc y) t h n =
-    le-div-iff-mul-le (lit< tt) .1
-    (go (ltb y 158) refl)
+    le-div-iff-mul-le (lit< tt) .1 (go (ltb y 158) refl)
   where
     go : (b : Bool) → ltb y 158 ≡ b → suc (2 ^ 31) * 2 ^ 149 ≤ (2 ^ 23 + t) * 2 ^ y
     go true e = le-trans {m = (2 ^ 23 + 1) * 2 ^ 157} (lit≤ tt) (le-trans (mul-le-mul-left (2 ^ 23 + 1) (pow-mono {i = 157} {j = y} (omega arith))) (mul-le-mul-right (2 ^ y) (omega (arith, ltb-true y 158 e))))
@@ -107,10 +98,6 @@ past-low w l h s n =
     rw (s, lt-ltb (2 ^ 31) _ (part-past (exponent binary32 w) (fraction binary32 w) h (λ m. n (sym (three-fields binary32 w l) ∙ rw (s, m))))) (or-true (isEndless binary32 w))
 
 -- ---- the integer
-
-nan-casts : (f : Format) (h w : ℕ) → nanBits f w ≡ true → toSigned h (ofBits f w) ≡ pos 0
-unfolding toSigned
-nan-casts f h w e = rw (nan-read f w e)
 
 inf-casts : (f : Format) (h w : ℕ) → isEndless f w ≡ true → nanBits f w ≡ false → toSigned h (ofBits f w) ≡ signed (negative f w) (lastSize h (negative f w))
 unfolding toSigned
@@ -130,7 +117,7 @@ size-is true zero = refl
 size-is true (suc n) = refl
 
 pub nothing-told : (f : Format) (h w : ℕ) → nanBits f w ≡ true → IsNothing f w (toSigned h (ofBits f w))
-nothing-told f h w e = record { nan = e; zero = nan-casts f h w e }
+nothing-told f h w e = record { nan = e; zero = nan-cast h (ofBits f w) (nan-read f w e) }
 
 module _ (f : Format) (h w : ℕ) where
   pub clipped-told : nanBits f w ≡ false → isPast f h w ≡ true → IsClipped f h (negative f w) w (toSigned h (ofBits f w))

@@ -1,12 +1,7 @@
 -- `probe::probe_cast_marked` meets its contract: the number of the cast's mark, and the word of its integer. Assumes nothing.
 use borrow.Author.Needs.{needs}
-use Prim.Native.Nat.{_+_, _*_, _^_}
-use mathlib.Core.Path.{ap, _∙_}
-use lib.IntN.{ℤ}
 use mir.Syntax.{w32}
-use mir.Val.{ofZ}
 use mir.Facts.{toZ-ofZ}
-use Rattle.float.specs.Marks.{numberOf}
 use Rattle.probe.proofs.probe_cast_marked.Statement.{statement}
 use Rattle.probe.proofs.probe_cast_marked.Tie as tie
 

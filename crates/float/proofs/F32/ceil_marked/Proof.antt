@@ -1,7 +1,7 @@
 -- `float::F32::ceil_marked` meets its contract: the floor and the mark are those of the word with its sign turned. Assumes nothing.
 use borrow.Author.Needs.{needs}
 use mathlib.Core.Path.{_≡_, sym, ap, _∙_}
-use Prim.Native.Nat.{ℕ, _^_}
+use Prim.Native.Nat.{_^_}
 use lib.Bits.{bitXor}
 use lib.Ieee.{binary32}
 use Rattle.format.specs.Sign.{turnedWord}
