@@ -55,7 +55,7 @@ cases =
     ∷ at 0xcf00_0000 Exact (negsuc 2147483647) 0xcf00_0000 High 0xcf00_0000
     ∷ at 0xcf00_0001 Low (negsuc 2147483647) 0xcf00_0000 High 0xcf00_0000
     ∷ at 0xcf80_0000 Low (negsuc 2147483647) 0xcf00_0000 High 0xcf00_0000
-    -- the last numbers, the infinities, and the first and the last NaN
+    -- the last numbers, the infinities, and three NaN, the first and the last among them
     ∷ at 0x7f7f_ffff High (pos 2147483647) 0x4f00_0000 Low 0x4f00_0000
     ∷ at 0xff7f_ffff Low (negsuc 2147483647) 0xcf00_0000 High 0xcf00_0000
     ∷ at 0x7f80_0000 High (pos 2147483647) 0x4f00_0000 Low 0x4f00_0000

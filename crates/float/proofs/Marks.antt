@@ -1,9 +1,9 @@
--- A mark tells the truth of the word that was cast and of its integer, and no other mark does; where it says that nothing was clipped, raw
--- floor and ceil are right. The mark by the fields of a word, as the code finds it. Assumes nothing.
-use Prim.Native.Nat.{ℕ, _^_, _<_, _≤_}
+-- A mark tells the truth of the word that was cast and of its integer, and no other mark does; what raw floor and ceil give by their marks:
+-- where nothing was clipped, the floor and the ceil. The mark by the fields of a word, as the code finds it. Assumes nothing.
+use Prim.Native.Nat.{ℕ, _<_, _≤_}
 use native.Mathlib.Omega.{arith}
 use mathlib.Core.Path.{_≡_, refl, sym, ap, subst, _∙_}
-use mathlib.Core.Bool.{Bool, true, false, not, cond, _&&_, _||_}
+use mathlib.Core.Bool.{Bool, true, false, cond, _&&_, _||_}
 use borrow.Author.Tests.{leb-true, leb-false}
 use lib.Dec.{leb, eqb}
 use lib.IntN.{ℤ}
@@ -15,8 +15,9 @@ use Rattle.format.specs.Cast.{isWhole, isPast, IsClipped}
 use Rattle.format.specs.Whole.{floorWord, ceilWord}
 use Rattle.format.specs.Meaning.{To31, IsFloor, IsCeil}
 use Rattle.format.proofs.Nan.{finite-number}
-use Rattle.format.proofs.Sign.{turned-magnitude, turned-lt}
-use Rattle.format.proofs.FloorMeaning.{floor-is, ceil-is}
+use Rattle.format.proofs.Sign.{turned-magnitude}
+use Rattle.format.proofs.FloorMeaning.{floor-is, ceil-by-floor, ceil-is}
+use Rattle.format.proofs.Clipped.{floor-of-clipped, floor-of-nothing}
 use Rattle.format.proofs.CastMeaning.{whole-is, within-range, past-high, past-low, nothing-told, clipped-told, kept-told, cut-told, kept-within, kept-whole, cut-within, cut-part, clipped-past}
 use Rattle.float.specs.declared.mark.Mark.{Mark}
 use Rattle.float.specs.declared.mark.Mark.the-variants.{Exact, Dropped, High, Low, NotANumber}
@@ -66,8 +67,8 @@ module _ (w : ℕ) (n : nanBits binary32 w ≡ false) where
   pub mark-high : 158 ≤ exponent binary32 w → negative binary32 w ≡ false → markOf w ≡ High
   mark-high h s = rw (n, past-high w h s, s)
 
-  pub mark-low : w < 2 ^ 32 → 158 ≤ exponent binary32 w → negative binary32 w ≡ true → (w ≡ 0xcf00_0000 → ⊥) → markOf w ≡ Low
-  mark-low l h s d = rw (n, past-low w l h s d, s)
+  pub mark-low : 158 ≤ exponent binary32 w → negative binary32 w ≡ true → (magnitude binary32 w ≡ 0x4f00_0000 → ⊥) → markOf w ≡ Low
+  mark-low h s d = rw (n, past-low w h s d, s)
 
 pub mark-least : (w : ℕ) → w ≡ 0xcf00_0000 → markOf w ≡ Exact
 unfolding nanBits
@@ -75,8 +76,8 @@ mark-least w e = rw e
 
 -- ---- where nothing was clipped, marked 0 or 1, floor and ceil have their meaning
 
-clear-to31 : (w : ℕ) → w < 2 ^ 32 → numberOf (markOf w) ≤ 1 → To31 w
-clear-to31 w l h = go (leb (magnitude binary32 w) 0x4f00_0000) refl
+clear-to31 : (w : ℕ) → numberOf (markOf w) ≤ 1 → To31 w
+clear-to31 w h = go (leb (magnitude binary32 w) 0x4f00_0000) refl
   where
     not-clear : {m : Mark} → markOf w ≡ m → (numberOf m ≤ 1 → ⊥) → To31 w
     not-clear e n = absurd (n (subst (λ (m : Mark). numberOf m ≤ 1) e h))
@@ -90,11 +91,36 @@ clear-to31 w l h = go (leb (magnitude binary32 w) 0x4f00_0000) refl
 
         by-class : (n s : Bool) → nanBits binary32 w ≡ n → negative binary32 w ≡ s → To31 w
         by-class true s a b = not-clear (mark-nan w a) (λ z. omega arith)
-        by-class false true a b = not-clear (mark-low w a l (omega (arith, k)) b (λ z. omega (arith, k))) (λ z. omega arith)
+        by-class false true a b = not-clear (mark-low w a (omega (arith, k)) b (λ z. omega (arith, k))) (λ z. omega arith)
         by-class false false a b = not-clear (mark-high w a (omega (arith, k)) b) (λ z. omega arith)
 
-pub clear-floor : (w : ℕ) → w < 2 ^ 32 → numberOf (markOf w) ≤ 1 → IsFloor binary32 w (floorWord binary32 w)
-clear-floor w l h = floor-is w (clear-to31 w l h)
+pub clear-floor : (w : ℕ) → numberOf (markOf w) ≤ 1 → IsFloor binary32 w (floorWord binary32 w)
+clear-floor w h = floor-is w (clear-to31 w h)
 
 pub clear-ceil : (w : ℕ) → numberOf (markOf (turnedWord binary32 w)) ≤ 1 → IsCeil binary32 w (ceilWord binary32 w)
-clear-ceil w h = ceil-is w (rw (turned-magnitude binary32 w) at (clear-to31 (turnedWord binary32 w) (turned-lt binary32 w (not (negative binary32 w))) h))
+clear-ceil w h = ceil-is w (rw (turned-magnitude binary32 w) at (clear-to31 (turnedWord binary32 w) h))
+
+-- ---- and elsewhere they give the end of the range, or a zero
+
+told-of : (w : ℕ) {m : Mark} → markOf w ≡ m → Tells m w (toSigned 31 (ofBits binary32 w))
+told-of w e = subst (λ (m : Mark). Tells m w (toSigned 31 (ofBits binary32 w))) e (tells w)
+
+module _ (w : ℕ) where
+  pub floor-high : markOf w ≡ High → floorWord binary32 w ≡ 0x4f00_0000
+  floor-high e = floor-of-clipped false w (told-of w e)
+
+  pub floor-low : markOf w ≡ Low → floorWord binary32 w ≡ 0xcf00_0000
+  floor-low e = floor-of-clipped true w (told-of w e)
+
+  pub floor-nan : markOf w ≡ NotANumber → floorWord binary32 w ≡ 0x0000_0000
+  floor-nan e = floor-of-nothing w (told-of w e)
+
+module _ (w : ℕ) where
+  pub ceil-high : markOf (turnedWord binary32 w) ≡ High → ceilWord binary32 w ≡ 0xcf00_0000
+  ceil-high e = ceil-by-floor binary32 w ∙ ap (turnedWord binary32) (floor-high (turnedWord binary32 w) e)
+
+  pub ceil-low : markOf (turnedWord binary32 w) ≡ Low → ceilWord binary32 w ≡ 0x4f00_0000
+  ceil-low e = ceil-by-floor binary32 w ∙ ap (turnedWord binary32) (floor-low (turnedWord binary32 w) e)
+
+  pub ceil-nan : markOf (turnedWord binary32 w) ≡ NotANumber → ceilWord binary32 w ≡ 0x8000_0000
+  ceil-nan e = ceil-by-floor binary32 w ∙ ap (turnedWord binary32) (floor-nan (turnedWord binary32 w) e)

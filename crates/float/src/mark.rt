@@ -61,7 +61,7 @@ impl F32 {
     }
 }
 
-// -2^31, the one word past 2^31 in size that is an integer still.
+// -2^31: of the words from 2^31 on in size, the one that a 32-bit integer holds.
 const LEAST: u32 = 0xcf00_0000;
 
 fn of_cast(x: F32) -> Mark
@@ -72,7 +72,7 @@ fn of_cast(x: F32) -> Mark
     }
     let exponent = x.extract_exponent_bits();
     if exponent < F32::EXPONENT_BIAS + 31 {
-        // the crate's own test is right from 1 on, and below 1 a zero alone is whole
+        // the crate's own test is right here from 1 on, and below 1 a zero alone is whole
         let whole = (exponent >= F32::EXPONENT_BIAS) & x.is_integer();
         return kept(whole | (x.without_sign().0 == 0));
     }

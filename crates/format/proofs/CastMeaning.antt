@@ -1,5 +1,5 @@
--- What a cast to an integer did to a number: of a number within the range the integer is its whole part, and past it the last integer on
--- its side. Which words are within it and which are whole, by the tests of their fields. Assumes nothing.
+-- What a cast to an integer did to a number: within the range the integer is its whole part, past it the last integer on its side, and of a
+-- NaN 0; and what the integer is to the number tells which. The tests by a word's fields, and at the words beside each. Assumes nothing.
 use Prim.Native.Nat.{ℕ, zero, suc, _+_, _-_, _*_, _/_, _%_, _^_, _<_, _≤_, min}
 use native.Mathlib.Nat.{zero-mul, zero-mod, mul-pos, zero-lt-suc, mod-eq-of-lt, mul-mod-left, mul-div-cancel, div-add-mod', le-trans, lt-of-lt-of-le, le-of-lt, ne-of-lt, ne-of-gt, mul-le-mul-right, mul-le-mul-left, le-div-iff-mul-le, div-lt-iff-lt-mul, add-zero}
 use native.Mathlib.Omega.{arith}
@@ -12,19 +12,19 @@ use lib.IntN.{ℤ, natAbs}
 use lib.Pow.{pow-pos, pow-add, pow-mono, shl-lt}
 use lib.Ieee.{Format, binary32, binary64, inf, prec, emax, low, hid, ones, ofBits, nanBits, toSigned}
 use lib.Ieee.Fits.{two}
-use Rattle.format.specs.Fields.{negative, exponent, fraction}
+use Rattle.format.specs.Fields.{negative, magnitude, exponent, fraction}
 use Rattle.format.specs.Exponent.{places, isIntegerWord}
 use Rattle.format.specs.Value.{unitsAt, units, Finite}
 use Rattle.format.specs.Classes.{isEndless, isZero}
 use Rattle.format.specs.Parts.{belowPoint}
 use Rattle.format.specs.Cast.{isWhole, lastSize, isPast, signed, IsKept, IsCut, IsClipped, IsNothing}
-use Rattle.format.proofs.Fields.{fraction-lt, three-fields}
+use Rattle.format.proofs.Fields.{fraction-lt, two-fields}
 use Rattle.format.proofs.Nan.{nan-read, inf-read, finite-number}
 use Rattle.format.proofs.AtLeastZero.{units-zero}
 use Rattle.format.proofs.Classes.{finite-of}
 use Rattle.format.proofs.Cast.{held, nan-cast, word-cast, past-range}
 use Rattle.format.proofs.Parts.{moved-up, below-lt, fraction-word}
-use Rattle.format.proofs.PartsMeaning.{InWidth, full, under-one, fract-is}
+use Rattle.format.proofs.PartsMeaning.{InWidth, full, small-units, fract-is}
 
 -- ---- whole or not
 
@@ -35,7 +35,7 @@ no-units-more (suc b) k = ne-eqb (suc b * 2 ^ k) 0 (λ e. omega (arith, mul-pos 
 -- below 1 a zero alone is whole
 pub whole-below-one : (f : Format) (w : ℕ) → exponent f w < emax f → isWhole f w ≡ isZero f w
 whole-below-one f w h =
-    ap (λ (n : ℕ). eqb n 0) (mod-eq-of-lt (under-one f (exponent f w) (fraction f w) h (fraction-lt f w))) ∙ sym (units-zero f w)
+    ap (λ (n : ℕ). eqb n 0) (mod-eq-of-lt (small-units f w h)) ∙ sym (units-zero f w)
 
 -- what is below the point, by the word's bits
 rest-is : (f : Format) (w : ℕ) → emax f ≤ exponent f w → InWidth f w → units f w % 2 ^ low f ≡ belowPoint f w * 2 ^ places f w * 2 ^ (emax f - 1)
@@ -80,7 +80,7 @@ within-range w h =
     under true n k = le-ltb (2 ^ 31) n (le-of-lt k)
     under false n k = le-ltb (2 ^ 31 - 1) n (omega arith)
 
--- from the field of 2 ^ 31 on every word is past it, but for -2 ^ 31 itself
+-- from the field of 2 ^ 31 on every size is past 2 ^ 31, but for that itself
 part-past : (x t : ℕ) → 158 ≤ x → (x * 2 ^ 23 + t ≡ 0x4f00_0000 → ⊥) → 2 ^ 31 < unitsAt binary32 x t / 2 ^ 149
 part-past zero t h n = absurd (let z : ⊥ = omega arith in z)
 part-past (suc y) t h n =
@@ -93,9 +93,9 @@ part-past (suc y) t h n =
 pub past-high : (w : ℕ) → 158 ≤ exponent binary32 w → negative binary32 w ≡ false → isPast binary32 31 w ≡ true
 past-high w h s = rw (s, lt-ltb (2 ^ 31 - 1) _ (past-range (exponent binary32 w) (fraction binary32 w) h)) (or-true (isEndless binary32 w))
 
-pub past-low : (w : ℕ) → w < 2 ^ 32 → 158 ≤ exponent binary32 w → negative binary32 w ≡ true → (w ≡ 0xcf00_0000 → ⊥) → isPast binary32 31 w ≡ true
-past-low w l h s n =
-    rw (s, lt-ltb (2 ^ 31) _ (part-past (exponent binary32 w) (fraction binary32 w) h (λ m. n (sym (three-fields binary32 w l) ∙ rw (s, m))))) (or-true (isEndless binary32 w))
+pub past-low : (w : ℕ) → 158 ≤ exponent binary32 w → negative binary32 w ≡ true → (magnitude binary32 w ≡ 0x4f00_0000 → ⊥) → isPast binary32 31 w ≡ true
+past-low w h s n =
+    rw (s, lt-ltb (2 ^ 31) _ (part-past (exponent binary32 w) (fraction binary32 w) h (λ m. n (sym (two-fields binary32 w) ∙ m)))) (or-true (isEndless binary32 w))
 
 -- ---- the integer
 
@@ -216,9 +216,9 @@ clipped-past f h {s} w c = go (isEndless f w) refl
     go true e = refl
     go false e = rw (c .side) (lt-ltb (lastSize h s) _ (le-div-iff-mul-le (pow-pos (low f)) .1 (c .past (finite-of f w e))))
 
--- ---- whole, and past the end of 32 bits, at the words beside each test: both zeros, the smallest numbers, 1/2, 1 and 3/2, the last with a
--- fraction and the next, 2 ^ 31 - 1 and what follows it, 2 ^ 31, -2 ^ 31 and what follows that, the infinities. In binary64 a half may
--- follow the ends, which is cut off and not past them.
+-- ---- whole, and past the end of 32 bits, at the words beside each test: both zeros, the smallest numbers, 1/2, 1 and 3/2; in binary32 the
+-- last with a fraction and the next; the last below 2 ^ 31 and it, the same below 0 and the next; the infinities. In binary64 the last
+-- integers on both sides have a half beyond them, which is cut off and not past them.
 
 abbrev tests : Format → ℕ → List Bool
 tests f w = isWhole f w ∷ isPast f 31 w ∷ []

@@ -13,6 +13,7 @@ pub mod PartsMeaning
 pub mod FloorMeaning
 pub mod RoundMeaning
 pub mod CastMeaning
+pub mod Clipped
 pub mod Pinned
 pub mod Order
 pub mod Normal

@@ -138,7 +138,7 @@ below-is f w h =
     ap (λ (c : ℕ). w % 2 ^ (prec f - 1 - c)) (place-is f w h)
     ∙ below-of f w (left f (exponent f w)) (sub-le (prec f - 1) (exponent f w - emax f))
 
-small-units : (f : Format) (w : ℕ) → exponent f w < emax f → units f w < 2 ^ low f
+pub small-units : (f : Format) (w : ℕ) → exponent f w < emax f → units f w < 2 ^ low f
 small-units f w h = under-one f (exponent f w) (fraction f w) h (fraction-lt f w)
 
 pub trunc-is : (f : Format) (w : ℕ) → w < 2 * top f → InWidth f w → IsTrunc f w (truncWord f w)

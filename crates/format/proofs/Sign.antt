@@ -80,7 +80,7 @@ neg-with s (fin t m e) = refl
 pub turned-read : (f : Format) (w : ℕ) → ofBits f (turnedWord f w) ≡ neg (ofBits f w)
 turned-read f w = sign-set f (not (negative f w)) w .value ∙ sym (ap neg (own-sign f w) ∙ neg-with (negative f w) (ofBits f w))
 
-pub turned-lt : (f : Format) (w : ℕ) (s : Bool) → signBit f s + magnitude f w < 2 * top f
+turned-lt : (f : Format) (w : ℕ) (s : Bool) → signBit f s + magnitude f w < 2 * top f
 turned-lt f w true = omega (arith, magnitude-lt f w)
 turned-lt f w false = omega (arith, magnitude-lt f w)
 

@@ -18,7 +18,7 @@ isWhole f w = eqb (units f w % 2 ^ low f) 0
 abbrev pub lastSize : ℕ → Bool → ℕ
 lastSize h s = cond s (2 ^ h) (2 ^ h - 1)
 
--- its whole part is past that integer, as an infinity is
+-- its whole part is past that integer, as an infinity is; so is a NaN by this test, and whoever uses it has asked for that before
 abbrev pub isPast : Format → ℕ → ℕ → Bool
 isPast f h w = isEndless f w || ltb (lastSize h (negative f w)) (units f w / 2 ^ low f)
 
@@ -41,7 +41,7 @@ pub record IsCut (f : Format) (w : ℕ) (z : ℤ) : Type 0 where
   pub whole : natAbs z ≡ units f w / 2 ^ low f
   pub rest : 0 < units f w % 2 ^ low f
 
--- it is the last integer on the side s of 0, and the number is at least the next one's size, or infinite
+-- it is the last integer on the side s of 0, where the number is too, with a size of at least one more, or infinite
 pub record IsClipped (f : Format) (h : ℕ) (s : Bool) (w : ℕ) (z : ℤ) : Type 0 where
   pub number : nanBits f w ≡ false
   pub side : negative f w ≡ s

@@ -1,10 +1,12 @@
 -- `float::mark::of_cast` meets its contract: each return is the definition's answer once the tests before it are known. Assumes nothing.
 use borrow.Author.Needs.{needs}
+use borrow.Author.Tests.{leb-true}
 use mathlib.Core.Path.{_≡_, sym, subst, _∙_}
-use mathlib.Core.Bool.{false}
-use Prim.Native.Nat.{ℕ, _≤_}
+use mathlib.Core.Bool.{true, false}
+use Prim.Native.Nat.{ℕ, _^_, _≤_}
+use native.Mathlib.Omega.{arith}
 use lib.Ieee.{binary32, nanBits}
-use Rattle.format.specs.Fields.{exponent}
+use Rattle.format.specs.Fields.{negative, exponent}
 use Rattle.float.proofs.Marks.{mark-nan, mark-within, mark-least, mark-low, mark-high}
 use Rattle.float.proofs.mark.of_cast.Statement.{statement}
 use Rattle.float.proofs.mark.of_cast.Tie as tie
@@ -40,7 +42,10 @@ of-cast-spec =
     let other = c .before .before in
     let past = other .before .before in
     let at = past .before in
-    sym (mark-low (word at) (number at) (other .before .struct-known2 .given .0 .fits) (from at (past .if2 .left)) (sym (c .before .is-sign-negative .ensures) ∙ c .if4 .taken) (other .if3 .left)))
+    let signed : negative binary32 (word at) ≡ true = sym (c .before .is-sign-negative .ensures) ∙ c .if4 .taken in
+    sym
+    (mark-low (word at) (number at) (from at (past .if2 .left)) signed
+    (λ m. other .if3 .left (omega (arith, other .before .struct-known2 .given .0 .fits, leb-true (2 ^ 31) (word at) signed)))))
     (λ c.
     let past = c .before .before .before .before in
     let at = past .before in
