@@ -12,9 +12,11 @@ ghost use Rattle.guard.specs.Refusals.{refusalOf};
 ghost use Rattle.frame.specs.Words.{packed, answerWords, wordBeside, wordsOf};
 ghost use Rattle.frame.specs.Frame.{returned, left};
 ghost use Rattle.strip.specs.Strip.{Strips};
+ghost use Rattle.grain.specs.Grain.{Leaves};
 use float::F32;
 use float::mark::Marked;
 use frame::words;
+use grain::Grain;
 
 // What a frame with this operation and these two words answers: the refusal number in the high 32
 // bits and the word in the low 32.
@@ -104,4 +106,15 @@ fn with_mark(marked: Marked) -> u64
 {
     let mark = marked.mark;
     mark.number() as u64 * 0x1_0000_0000 + marked.number.0 as u64
+}
+
+// Offers a sample to a record of grain, which is changed in place: returns the refusal, 0 where the
+// sample is taken.
+#[no_mangle]
+pub extern "C" fn dampmeadow_grain_offer(grain: &mut Grain, sample: u32) -> u32
+    ensures { λ r. ⌜ Leaves (now (grain .entry)) sample r (now (grain .exit)) ⌝ }
+{
+    let next = grain.offer(F32(sample));
+    *grain = next.grain;
+    next.refusal
 }

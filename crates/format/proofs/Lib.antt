@@ -22,5 +22,6 @@ pub mod Sqrt
 pub mod Invsqrt
 pub mod AtLeastZero
 pub mod Same
+pub mod Exact
 pub mod TakenOff
 pub mod Unique

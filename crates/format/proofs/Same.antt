@@ -86,7 +86,7 @@ module _ (f : Format) (s : Bool) (q j : ℕ) (few : q < 2 ^ prec f) (fine : q * 
 abbrev pub zeroOf : Bool → Float
 zeroOf s = fin s 0 (pos 0)
 
-zero-fits : (f : Format) (s : Bool) → T (fits f (zeroOf s))
+pub zero-fits : (f : Format) (s : Bool) → T (fits f (zeroOf s))
 unfolding fits
 zero-fits f s = tt
 

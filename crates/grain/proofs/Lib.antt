@@ -1,0 +1,8 @@
+-- Laws of the offers, one by one and over histories.
+pub mod Answers
+pub mod History
+pub mod Steady
+pub mod SameWord
+pub mod Bounded
+pub mod Examples
+pub mod OneAnswer
