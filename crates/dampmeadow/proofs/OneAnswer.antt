@@ -1,6 +1,6 @@
 -- Any two answers that a statement of this crate allows coincide: an entry for every exported call. Assumes nothing.
 use Prim.Native.Nat.{ℕ}
-use mathlib.Core.Path.{ap, _∙_}
+use mathlib.Core.Path.{_≡_, ap, _∙_}
 use mathlib.Core.List.{List}
 use lib.Ieee.{binary32}
 use contract.Lifetimes.{Lfts}
@@ -12,6 +12,8 @@ use Rattle.frame.specs.Words.{wordBeside}
 use Rattle.frame.specs.Frame.{returned, left}
 use Rattle.frame.proofs.OneAnswer.{seen}
 use Rattle.strip.proofs.OneAnswer as strip
+use Rattle.grain.specs.declared.Grain.{Grain}
+use Rattle.grain.specs.Grain.{Leaves}
 use Rattle.dampmeadow.proofs.dampmeadow_answer.Reads as answer-reads
 use Rattle.format.proofs.Pinned.{OneAnswer, pinned}
 use Rattle.dampmeadow.proofs.dampmeadow_words.Reads as words
@@ -60,3 +62,8 @@ dampmeadow-floor-marked κs = pinned _ (λ a r x p. p)
 
 pub dampmeadow-ceil-marked : (κs : Lfts 0) → OneAnswer (ceil-marked.Post κs) (λ r x. r)
 dampmeadow-ceil-marked κs = pinned _ (λ a r x p. p)
+
+-- The offer in place is proved by hand, and has no `Reads`: its entry is over what its contract says, `Leaves`. What is seen is the refusal and the
+-- record that was lent.
+pub dampmeadow-grain-offer : (g : Grain) (w n m : ℕ) (h k : Grain) → Leaves g w n h → Leaves g w m k → (n ≡ m) × (h ≡ k)
+dampmeadow-grain-offer g w n m h k p q = (cc, cc)

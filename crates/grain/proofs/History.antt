@@ -121,8 +121,8 @@ accepted g w e =
 
 -- what every sample that is taken keeps, and every refusal too, holds after a history
 module _ (P : Grain → Type 0) (Q : ℕ → Type 0)
-  (more : (g : Grain) (w : ℕ) → Accepted g w → Q w → P g → P (taken g (ofBits binary32 w)))
-  (less : (g : Grain) → P g → P (turnedAway g)) where
+    (more : (g : Grain) (w : ℕ) → Accepted g w → Q w → P g → P (taken g (ofBits binary32 w)))
+    (less : (g : Grain) → P g → P (turnedAway g)) where
   made-keeps : (n : ℕ) (g : Grain) (w : ℕ) → refusalOf g w ≡ n → (n ≡ 0 → Q w) → P g → P (made n g w)
   made-keeps zero g w e q h = more g w (accepted g w e) (q refl) h
   made-keeps (suc n) g w e q h = rw (ne-eqb (suc n) 0 (λ k. omega arith)) (go (eqb (suc n) 12))
