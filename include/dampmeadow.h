@@ -10,12 +10,14 @@
  * that asks for it. A controller without a C library supplies its own, a function float fmodf(float, float) that gives the
  * exact remainder: docs/GUIDE.md has what is asked of it, and bindings/c/fmodf.c is one.
  *
- * It keeps nothing between calls, so any number of threads may call it at once. It counts on the processor's usual float
- * settings: rounding to nearest, and numbers too small to be normal kept as they are. (A program linked with -ffast-math may
- * start with other settings, and then the answers are not ours: docs/GUIDE.md has what changes.)
+ * It keeps nothing between calls, so any number of threads may call it at once, each with memory of its own to be written: two
+ * threads must not offer to one record of grain at once. It counts on the processor's usual float settings: rounding to
+ * nearest, and numbers too small to be normal kept as they are. (A program linked with -ffast-math may start with other
+ * settings, and then the answers are not ours: docs/GUIDE.md has what changes.)
  *
  * A float goes in and comes out as its 32 bits, its "word": 4.0f is 0x40800000. dampmeadow_bits and dampmeadow_float, below,
- * go from one to the other. Words, and not floats, because a NaN's bits may change when it is handed on as a float.
+ * go from one to the other. Words, and not floats, because a NaN's bits may change when it is handed on as a float. The mean
+ * and the sum in a record of grain alone are floats.
  */
 #ifndef DAMPMEADOW_H
 #define DAMPMEADOW_H
@@ -102,16 +104,18 @@ enum dampmeadow_operation {
 /* ---- The refusals
  *
  * Where more than one of them holds, the first in the column "looked at" is given. Raw forms are never refused with 1 to 5
- * or with 9. 8 is given by dampmeadow_answer alone, and 10 by dampmeadow_strip alone. Later versions have more of them: take
- * every number but 0 for a refusal.
+ * or with 9. 8 is given by dampmeadow_answer alone, 10 by dampmeadow_strip alone, and 11 and 12 by dampmeadow_grain_offer
+ * alone. That gives 1 and 4 too, for the sample, and looks at them in the order 12, 1, 4, 11. Later versions have more of
+ * them: take every number but 0 for a refusal.
  */
 enum dampmeadow_refusal {                  /* looked at    given when                                                 */
     DAMPMEADOW_ANSWERED = 0,               /*              there is an answer                                         */
-    DAMPMEADOW_NOT_FINITE = 1,             /* third        an operand is an infinity or a NaN                         */
+    DAMPMEADOW_NOT_FINITE = 1,             /* third        an operand or a sample is an infinity or a NaN             */
     DAMPMEADOW_ZERO = 2,                   /* fourth       the first operand is 0 or -0: invsqrt, inv, recip, ln,     */
                                            /*              powi, powf                                                 */
     DAMPMEADOW_NEGATIVE = 3,               /* sixth        the first operand is below 0: sqrt, invsqrt, ln, powf      */
-    DAMPMEADOW_OUTSIDE = 4,                /* seventh      outside what the operation takes, as listed above          */
+    DAMPMEADOW_OUTSIDE = 4,                /* seventh      outside what the operation takes, as listed above; or a    */
+                                           /*              sample's size is above 2^20                                */
     DAMPMEADOW_POWER_OUTSIDE = 5,          /* last         powi's power is below -1048576 or above 1048576            */
     DAMPMEADOW_NO_SUCH_OPERATION = 6,      /* second       no operation has this number                               */
     DAMPMEADOW_MALFORMED = 7,              /* first        the line is no frame; or, after 6 and before 1, the second */
@@ -119,7 +123,10 @@ enum dampmeadow_refusal {                  /* looked at    given when           
     DAMPMEADOW_NO_ROOM = 8,                /* before all   the space for the answer has fewer than 11 bytes           */
     DAMPMEADOW_SMALL = 9,                  /* fifth        the first operand is not 0 and too small to be normal:     */
                                            /*              sqrt, invsqrt, inv, recip, ln, powi, powf                  */
-    DAMPMEADOW_LENGTHS = 10                /* before 6     the lists of a strip have not all one length               */
+    DAMPMEADOW_LENGTHS = 10,               /* before 6     the lists of a strip have not all one length               */
+    DAMPMEADOW_FULL = 11,                  /* after 4      the record of grain holds 65536 samples already            */
+    DAMPMEADOW_WORN_OUT = 12               /* before all   the record of grain has counted 4294967295 offers; nothing */
+                                           /*              changes                                                    */
 };
 
 /* ---- The marks
@@ -242,6 +249,44 @@ uint64_t dampmeadow_floor_marked(uint32_t a);
  *   dampmeadow_ceil_marked(0x7fc00000) == 0x480000000       of a NaN: not a number, and -0
  */
 uint64_t dampmeadow_ceil_marked(uint32_t a);
+
+/* A record of grain: how many samples were taken, their running mean, and how far they lie about it. It is the caller's, and
+ * each offer changes it in place. There is no call for a new one: a fresh record is all zeros, {0, 0, 0.0f, 0.0f}, and memset
+ * to 0 makes one too.
+ *
+ * What is kept is the sum of the squared deviations and not the variance: divide sum by count, or by count - 1, where that is
+ * not 0.
+ *
+ * Of a record that was fresh and is changed by offers alone it is proved that count is the number of samples taken and refused
+ * the number refused, which add up to the offers, up to 4294967295 of them; that mean and sum are finite numbers, never a NaN
+ * or an infinity; and that where every sample taken is the same word, sum is +0 and mean is that number, +0 for -0. That sum is
+ * never below 0 is not proved, only tried.
+ */
+struct dampmeadow_grain {
+    uint32_t count;   /* how many samples were taken, 65536 at most */
+    uint32_t refused; /* how many were refused with 1, 4 or 11      */
+    float mean;       /* the mean of those taken                    */
+    float sum;        /* the sum of their squared deviations        */
+};
+
+/* Offers a sample to a record of grain. It has no operation number.
+ *
+ * In:   grain, the record, which is not NULL. Any may be lent, one too that no offers give: a count of 70000 is full, and a NaN
+ *       or an infinity in mean or sum goes through the steps as IEEE 754 has it. Which bits a NaN then has is not said.
+ *       sample, the sample's word; its size is 2^20 at most. Numbers too small to be normal are taken at their value.
+ * Back: 0 where the sample is taken. Then count is raised by one, to n; with d, which is sample - mean, mean gains d / n, and
+ *       sum gains d * (sample - mean), by the new mean. Each step is rounded once, to a float.
+ *       Or the refusal, the first of these that holds: 12 where count and refused add up to 4294967295 or more, 1 for an
+ *       infinity or a NaN, 4 for a size above 2^20, and 11 where count is 65536 or more. With 12 nothing changes; with the
+ *       others refused is raised by one and the rest stays.
+ *
+ *   struct dampmeadow_grain grain = {0, 0, 0.0f, 0.0f};
+ *   dampmeadow_grain_offer(&grain, 0x40000000) == 0      2 is taken: count is 1, mean 2 and sum 0
+ *   dampmeadow_grain_offer(&grain, 0x40800000) == 0      4 is taken: count is 2, mean 3 and sum 2
+ *   dampmeadow_grain_offer(&grain, 0x7fc00000) == 1      a NaN: refused is 1, and the rest stays
+ *   dampmeadow_grain_offer(&grain, 0x49800001) == 4      the first above 2^20: refused is 2, and the rest stays
+ */
+uint32_t dampmeadow_grain_offer(struct dampmeadow_grain *grain, uint32_t sample);
 
 /* The bytes of an answer to a frame. */
 #define DAMPMEADOW_ANSWER_LENGTH 11

@@ -44,6 +44,45 @@ static void marks(const char *what, uint32_t a, uint32_t floor_mark, uint32_t fl
     hold(what, dampmeadow_words(DAMPMEADOW_RAW + DAMPMEADOW_CEIL, a, 0), ceil_word);
 }
 
+/* A record of grain, its mean and its sum given as words. */
+static struct dampmeadow_grain record(uint32_t count, uint32_t refused, uint32_t mean, uint32_t sum)
+{
+    struct dampmeadow_grain grain = {count, refused, dampmeadow_float(mean), dampmeadow_float(sum)};
+    return grain;
+}
+
+/* The four fields of a record: the two counts, and then the words of mean and sum. */
+static void holds(const char *what, const struct dampmeadow_grain *grain, const struct dampmeadow_grain *due)
+{
+    hold(what, (uint64_t)grain->count << 32 | grain->refused, (uint64_t)due->count << 32 | due->refused);
+    hold(what, (uint64_t)dampmeadow_bits(grain->mean) << 32 | dampmeadow_bits(grain->sum),
+         (uint64_t)dampmeadow_bits(due->mean) << 32 | dampmeadow_bits(due->sum));
+}
+
+/* An offer: the refusal, and then the record, which `due` is to be. */
+static void offer(const char *what, struct dampmeadow_grain *grain, uint32_t sample, uint32_t refusal,
+                  struct dampmeadow_grain due)
+{
+    hold(what, dampmeadow_grain_offer(grain, sample), refusal);
+    holds(what, grain, &due);
+}
+
+/* The same of a record that is given for this offer alone. */
+static void offer_to(const char *what, struct dampmeadow_grain grain, uint32_t sample, uint32_t refusal,
+                     struct dampmeadow_grain due)
+{
+    offer(what, &grain, sample, refusal, due);
+}
+
+/* A fresh record, all zeros, after these samples, of which each is taken. */
+static void taken(const char *what, const uint32_t *samples, size_t number, uint32_t mean, uint32_t sum)
+{
+    struct dampmeadow_grain grain = {0, 0, 0.0f, 0.0f};
+    const struct dampmeadow_grain due = record((uint32_t)number, 0, mean, sum);
+    for (size_t i = 0; i < number; i++) hold(what, dampmeadow_grain_offer(&grain, samples[i]), DAMPMEADOW_ANSWERED);
+    holds(what, &grain, &due);
+}
+
 /* A place of a strip before the call: 99 is no refusal. */
 #define UNTOUCHED 0x6300000063
 
@@ -202,6 +241,100 @@ int main(void)
     marks("the marks of -infinity", 0xff800000, low, 0xcf000000, high, 0xcf000000);
     marks("the marks of a NaN", nan, no_number, 0x00000000, no_number, 0x80000000);
     marks("the marks of a NaN with a sign", 0xffc00001, no_number, 0x00000000, no_number, 0x80000000);
+
+    hold("the size of a record", sizeof(struct dampmeadow_grain), 16);
+    hold("where count is", offsetof(struct dampmeadow_grain, count), 0);
+    hold("where refused is", offsetof(struct dampmeadow_grain, refused), 4);
+    hold("where mean is", offsetof(struct dampmeadow_grain, mean), 8);
+    hold("where sum is", offsetof(struct dampmeadow_grain, sum), 12);
+
+    /* one record through the header's examples and on, between two words that have to stay */
+    struct {
+        uint32_t before;
+        struct dampmeadow_grain grain;
+        uint32_t after;
+    } lent;
+    memset(&lent, 0, sizeof lent);
+    lent.before = lent.after = 99;
+    offer("2 to a fresh record", &lent.grain, 0x40000000, DAMPMEADOW_ANSWERED, record(1, 0, 0x40000000, 0));
+    offer("then 4", &lent.grain, 0x40800000, DAMPMEADOW_ANSWERED, record(2, 0, 0x40400000, 0x40000000));
+    offer("then a NaN", &lent.grain, nan, DAMPMEADOW_NOT_FINITE, record(2, 1, 0x40400000, 0x40000000));
+    offer("then the first above 2^20", &lent.grain, 0x49800001, DAMPMEADOW_OUTSIDE, record(2, 2, 0x40400000, 0x40000000));
+    offer("then infinity", &lent.grain, 0x7f800000, DAMPMEADOW_NOT_FINITE, record(2, 3, 0x40400000, 0x40000000));
+    offer("then 3", &lent.grain, 0x40400000, DAMPMEADOW_ANSWERED, record(3, 3, 0x40400000, 0x40000000));
+    hold("the word before a record", lent.before, 99);
+    hold("the word after a record", lent.after, 99);
+
+    const uint32_t four[4] = {0x3f800000, 0x40000000, 0x40400000, 0x40800000};
+    const uint32_t eight[8] = {0x40000000, 0x40800000, 0x40800000, 0x40800000, 0x40a00000, 0x40a00000, 0x40e00000, 0x41100000};
+    const uint32_t uneven[4] = {0x3f000000, 0x3f4ccccd, 0x3e4ccccd, 0x3f666666};
+    const uint32_t leap[4] = {0x3dcccccd, 0x3dcccccd, 0x3dcccccd, 0x3f19999a};
+    const uint32_t small[3] = {0x00000001, 0x80000001, 0x00000003}, brink[2] = {0x807fffff, 0x00800000};
+    const uint32_t zeros[3] = {0x80000000, 0x80000000, 0x80000000}, ends[2] = {0x49800000, 0xc9800000};
+    taken("1, 2, 3, 4", four, 4, 0x40200000, 0x40a00000);
+    taken("2, 4, 4, 4, 5, 5, 7, 9", eight, 8, 0x40a00000, 0x42000000);
+    taken("0.5, 0.8, 0.2, 0.9", uneven, 4, 0x3f19999a, 0x3e99999a);
+    taken("0.1 thrice and 0.6", leap, 4, 0x3e666666, 0x3e400001);
+    taken("0.1 thrice", leap, 3, 0x3dcccccd, 0);
+    taken("three that are not normal", small, 3, 0x00000001, 0);
+    taken("the last that is not normal, below 0, and the first that is", brink, 2, 0x00000001, 0);
+    taken("-0 thrice", zeros, 3, 0, 0);
+    taken("2^20 and -2^20", ends, 2, 0, 0x54000000);
+    taken("nothing", four, 0, 0, 0);
+
+    /* the steps from a record of mean 0.5 and sum 0.25, and both sides of each gate */
+    const uint32_t half = 0x3f000000, quarter = 0x3e800000, one = 0x3f800000, most = 65536, end = 4294967295;
+    const struct dampmeadow_grain some = record(3, 2, half, quarter), turned = record(3, 3, half, quarter);
+    const struct dampmeadow_grain full = record(most, 2, half, quarter), fuller = record(most, 3, half, quarter);
+    offer_to("2^20", some, 0x49800000, DAMPMEADOW_ANSWERED, record(4, 2, 0x4880000c, 0x533ffff4));
+    offer_to("-2^20", some, 0xc9800000, DAMPMEADOW_ANSWERED, record(4, 2, 0xc87fffe8, 0x5340000c));
+    offer_to("the first above 2^20", some, 0x49800001, DAMPMEADOW_OUTSIDE, turned);
+    offer_to("the first below -2^20", some, 0xc9800001, DAMPMEADOW_OUTSIDE, turned);
+    offer_to("the largest", some, 0x7f7fffff, DAMPMEADOW_OUTSIDE, turned);
+    offer_to("the lowest", some, 0xff7fffff, DAMPMEADOW_OUTSIDE, turned);
+    offer_to("infinity", some, 0x7f800000, DAMPMEADOW_NOT_FINITE, turned);
+    offer_to("-infinity", some, 0xff800000, DAMPMEADOW_NOT_FINITE, turned);
+    offer_to("a NaN", some, nan, DAMPMEADOW_NOT_FINITE, turned);
+    offer_to("a NaN that signals", some, 0x7f800001, DAMPMEADOW_NOT_FINITE, turned);
+    offer_to("a NaN of all ones", some, 0xffffffff, DAMPMEADOW_NOT_FINITE, turned);
+    offer_to("the last sample", record(most - 1, 0, half, quarter), one, DAMPMEADOW_ANSWERED,
+             record(most, 0, 0x3f000080, 0x3effff80));
+    offer_to("one too many", full, one, DAMPMEADOW_FULL, fuller);
+    offer_to("-0 to a full record", full, 0x80000000, DAMPMEADOW_FULL, fuller);
+    offer_to("2^20 to a full record", full, 0x49800000, DAMPMEADOW_FULL, fuller);
+    offer_to("the first above 2^20 to a full record", full, 0x49800001, DAMPMEADOW_OUTSIDE, fuller);
+    offer_to("infinity to a full record", full, 0x7f800000, DAMPMEADOW_NOT_FINITE, fuller);
+    offer_to("a NaN to a full record", full, nan, DAMPMEADOW_NOT_FINITE, fuller);
+    offer_to("a count of 70000", record(70000, 2, half, quarter), one, DAMPMEADOW_FULL, record(70000, 3, half, quarter));
+
+    /* the last offer that is counted, and the next; then records that no offers give */
+    struct dampmeadow_grain last = record(1, end - 2, half, quarter);
+    offer("the last offer, taken", &last, half, DAMPMEADOW_ANSWERED, record(2, end - 2, half, quarter));
+    offer("one offer more", &last, half, DAMPMEADOW_WORN_OUT, record(2, end - 2, half, quarter));
+    last = record(most, end - most - 1, half, quarter);
+    offer("the last offer, to a full record", &last, half, DAMPMEADOW_FULL, record(most, end - most, half, quarter));
+    offer("one more to a full record", &last, half, DAMPMEADOW_WORN_OUT, record(most, end - most, half, quarter));
+    last = record(0, end - 1, 0, 0);
+    offer("the last offer, a NaN", &last, nan, DAMPMEADOW_NOT_FINITE, record(0, end, 0, 0));
+    offer("a sample to a record of refusals alone", &last, one, DAMPMEADOW_WORN_OUT, record(0, end, 0, 0));
+    last = record(1, end - 2, half, quarter);
+    offer("the last offer, above 2^20", &last, 0x49800001, DAMPMEADOW_OUTSIDE, record(1, end - 1, half, quarter));
+    offer("another above 2^20", &last, 0x49800001, DAMPMEADOW_WORN_OUT, record(1, end - 1, half, quarter));
+    const uint32_t any[5] = {0, half, 0x49800001, 0x7f800000, nan};
+    const uint32_t worn[6][2] = {{0, end}, {1, end - 1}, {most, end - most}, {end, 0}, {1, end}, {end, end}};
+    for (int i = 0; i < 6; i++) for (int j = 0; j < 5; j++) {
+        const struct dampmeadow_grain counted = record(worn[i][0], worn[i][1], half, quarter);
+        offer_to("any word to a record that is worn out", counted, any[j], DAMPMEADOW_WORN_OUT, counted);
+    }
+    offer_to("a count of one less than the offers", record(end - 1, 0, half, quarter), one, DAMPMEADOW_FULL,
+             record(end - 1, 1, half, quarter));
+
+    /* a mean that is infinite goes through the steps: -infinity is the deviation, and the rest is a NaN */
+    struct dampmeadow_grain endless = record(1, 0, 0x7f800000, 0);
+    hold("1 to an infinite mean", dampmeadow_grain_offer(&endless, one), DAMPMEADOW_ANSWERED);
+    hold("the counts then", (uint64_t)endless.count << 32 | endless.refused, (uint64_t)2 << 32);
+    hold("the mean is a NaN", (dampmeadow_bits(endless.mean) & 0x7fffffff) > 0x7f800000, 1);
+    hold("the sum is a NaN", (dampmeadow_bits(endless.sum) & 0x7fffffff) > 0x7f800000, 1);
 
     const size_t all[4] = {3, 3, 3, 3}, two[4] = {2, 2, 2, 2}, none[4] = {0, 0, 0, 0};
     const uint32_t powers[3] = {(uint32_t)-1, (uint32_t)-1048577, 1};

@@ -51,6 +51,36 @@ void floors(const char *what, float x, uint32_t mark, float number) { marked(wha
 
 void ceils(const char *what, float x, uint32_t mark, float number) { marked(what, dampmeadow_ceil_marked(dampmeadow_bits(x)), mark, number); }
 
+static_assert(sizeof(dampmeadow_grain) == 16 && alignof(dampmeadow_grain) == 4, "a record of grain has 16 bytes");
+static_assert(offsetof(dampmeadow_grain, count) == 0 && offsetof(dampmeadow_grain, refused) == 4, "the counts are first");
+static_assert(offsetof(dampmeadow_grain, mean) == 8 && offsetof(dampmeadow_grain, sum) == 12, "the floats follow");
+
+// Samples offered to a record one by one, each with the refusal that is due, and then the record. The words of mean and sum are
+// compared, since a zero's sign is part of them.
+struct Offer {
+    float sample;
+    uint32_t refusal;
+};
+
+void offers(const char *what, dampmeadow_grain grain, const std::vector<Offer> &list, const dampmeadow_grain &due)
+{
+    for (const Offer &one : list) {
+        tried++;
+        const uint32_t got = dampmeadow_grain_offer(&grain, dampmeadow_bits(one.sample));
+        if (got == one.refusal) continue;
+        wrong++;
+        std::printf("%s, %.9g: refusal %u, and %u is due\n", what, double(one.sample), unsigned(got), unsigned(one.refusal));
+    }
+    tried++;
+    const bool counts = grain.count == due.count && grain.refused == due.refused;
+    const bool mean = dampmeadow_bits(grain.mean) == dampmeadow_bits(due.mean);
+    if (counts && mean && dampmeadow_bits(grain.sum) == dampmeadow_bits(due.sum)) return;
+    wrong++;
+    std::printf("%s: %u taken, %u refused, mean %.9g, sum %.9g, and %u, %u, %.9g, %.9g is due\n", what, unsigned(grain.count),
+                unsigned(grain.refused), double(grain.mean), double(grain.sum), unsigned(due.count), unsigned(due.refused),
+                double(due.mean), double(due.sum));
+}
+
 // The words of some floats, and one word more, which is not lent: an empty vector may have NULL for its data.
 std::vector<uint32_t> words(const std::vector<float> &numbers)
 {
@@ -136,6 +166,34 @@ int main()
     strip("a strip with a short second list", DAMPMEADOW_SQRT, {4.0f}, {}, DAMPMEADOW_LENGTHS, {{99, -9.0f}});
     strip("a strip of operation 1f", 0x1f, {4.0f}, {4.0f}, DAMPMEADOW_NO_SUCH_OPERATION, {{99, -9.0f}});
     strip("a strip of operation 1f and no places", 0x1f, {}, {}, DAMPMEADOW_NO_SUCH_OPERATION, {});
+    const dampmeadow_grain fresh = {0, 0, 0.0f, 0.0f};
+    const uint32_t taken = DAMPMEADOW_ANSWERED, not_finite = DAMPMEADOW_NOT_FINITE, outside = DAMPMEADOW_OUTSIDE;
+    const uint32_t full = DAMPMEADOW_FULL, worn = DAMPMEADOW_WORN_OUT, last = 4294967295;
+    const float nan = dampmeadow_float(0x7fc00000), infinite = dampmeadow_float(0x7f800000);
+    const float large = 1048576.0f, above = dampmeadow_float(0x49800001); // 2^20 and the first above it
+    offers("no offers", dampmeadow_grain(), {}, fresh);
+    offers("1, 2, 3, 4", fresh, {{1.0f, taken}, {2.0f, taken}, {3.0f, taken}, {4.0f, taken}}, {4, 0, 2.5f, 5.0f});
+    offers("2, 4, a NaN and the first above 2^20", fresh, {{2.0f, taken}, {4.0f, taken}, {nan, not_finite}, {above, outside}},
+           {2, 2, 3.0f, 2.0f});
+    offers("0.1 thrice and 0.6", fresh, {{0.1f, taken}, {0.1f, taken}, {0.1f, taken}, {0.6f, taken}},
+           {4, 0, dampmeadow_float(0x3e666666), dampmeadow_float(0x3e400001)});
+    offers("2^20, a NaN, the first below -2^20, -2^20", fresh,
+           {{large, taken}, {nan, not_finite}, {-above, outside}, {-large, taken}}, {2, 2, 0.0f, dampmeadow_float(0x54000000)});
+    offers("-0 twice", fresh, {{-0.0f, taken}, {-0.0f, taken}}, {2, 0, 0.0f, 0.0f});
+    offers("infinity, -infinity, the largest, the lowest", fresh,
+           {{infinite, not_finite}, {-infinite, not_finite}, {3.40282347e38f, outside}, {-3.40282347e38f, outside}},
+           {0, 4, 0.0f, 0.0f});
+    offers("the last sample, and then none", {65535, 0, 0.5f, 0.25f},
+           {{1.0f, taken}, {1.0f, full}, {-0.0f, full}, {above, outside}, {infinite, not_finite}, {nan, not_finite}},
+           {65536, 5, dampmeadow_float(0x3f000080), dampmeadow_float(0x3effff80)});
+    offers("a count of 70000", {70000, 2, 0.5f, 0.25f}, {{1.0f, full}}, {70000, 3, 0.5f, 0.25f});
+    const std::vector<Offer> none = {{1.0f, worn}, {nan, worn}, {infinite, worn}, {above, worn}};
+    offers("the last offer, taken, and then none", {0, last - 1, 0.0f, 0.0f}, {{1.0f, taken}, {1.0f, worn}, {nan, worn}},
+           {1, last - 1, 1.0f, 0.0f});
+    offers("the last offer, to a full record, and then none", {65536, last - 65537, 0.5f, 0.25f}, {{1.0f, full}, {1.0f, worn}},
+           {65536, last - 65536, 0.5f, 0.25f});
+    offers("a record that is worn out", {65536, last - 65536, 0.5f, 0.25f}, none, {65536, last - 65536, 0.5f, 0.25f});
+    offers("a record with more than all the offers", {1, last, 0.5f, 0.25f}, none, {1, last, 0.5f, 0.25f});
     line("094080000000000000", "0040000000");
     line("a frame is eighteen digits", "0700000000");
 

@@ -23,7 +23,8 @@
 //! them percents off. [`raw`] gives what micromath gives for every word, NaN and infinity among them, but for five cases that
 //! docs/DIFFERENCES.md lists. [`raw_floor_marked`] and [`raw_ceil_marked`] give a [`Mark`] beside that, which says what their
 //! cast to an integer did to the number. [`call`] takes any operation by its number, [`strip`] the same over whole lists, and
-//! [`answer`] a frame, which is a line of text. Nothing is kept between calls, so they may be made from any thread.
+//! [`answer`] a frame, which is a line of text. A [`Grain`] is a record of samples, their running mean and spread, that is
+//! changed in place as each is offered. The library itself keeps nothing between calls, so they may be made from any thread.
 //!
 //! The build script finds the library, or proves and builds it, which takes a minute or two the first time; where it cannot, it
 //! says what is missing. The library asks for one function from outside, `fmodf`: it is Rust's own where Rust brings one, and
@@ -32,12 +33,14 @@
 #![no_std]
 #![deny(unsafe_op_in_unsafe_fn)]
 
+mod grain;
 mod kernels;
 mod mark;
 mod operation;
 mod refusal;
 mod strip;
 
+pub use grain::Grain;
 pub use kernels::*;
 pub use mark::Mark;
 pub use operation::Operation;
@@ -49,6 +52,8 @@ pub const ANSWER_LENGTH: usize = 11;
 
 /// The exported calls. A slice is two arguments there, where it begins and how long it is.
 mod exported {
+    use crate::Grain;
+
     extern "C" {
         pub fn dampmeadow_words(op: u32, a: u32, b: u32) -> u64;
         pub fn dampmeadow_strip(
@@ -68,6 +73,7 @@ mod exported {
         pub fn dampmeadow_parts(a: u32, whole: *mut u32, rest: *mut u32) -> u32;
         pub fn dampmeadow_floor_marked(a: u32) -> u64;
         pub fn dampmeadow_ceil_marked(a: u32) -> u64;
+        pub fn dampmeadow_grain_offer(grain: *mut Grain, sample: u32) -> u32;
     }
 }
 

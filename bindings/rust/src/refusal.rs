@@ -1,8 +1,9 @@
 use core::error::Error;
 use core::fmt::{Display, Formatter, Result};
 
-/// Why there is no answer. Where more than one holds, the first of these is given: 8; 7 for a line that is no frame; 10; 6; 7
-/// for a second word that should be 0; then 1, 2, 9, 3, 4, 5. Later versions of the library have more of them, so a `match` ends
+/// Why there is no answer, or why a sample was not taken. Where more than one holds, the first of these is given: 8; 7 for a
+/// line that is no frame; 10; 6; 7 for a second word that should be 0; then 1, 2, 9, 3, 4, 5. For an offer to a
+/// [`Grain`](crate::Grain) it is the first of 12, 1, 4, 11. Later versions of the library have more of them, so a `match` ends
 /// with `_`. One displays its number and what it says.
 ///
 /// ```
@@ -15,13 +16,13 @@ use core::fmt::{Display, Formatter, Result};
 #[derive(Clone, Copy, Debug, PartialEq, Eq, Hash)]
 #[non_exhaustive]
 pub enum Refusal {
-    /// 1: an operand is an infinity or a NaN.
+    /// 1: an operand or a sample is an infinity or a NaN.
     NotFinite,
     /// 2: the first operand is 0 or -0: invsqrt, inv, recip, ln, powi, powf.
     Zero,
     /// 3: the first operand is below 0: sqrt, invsqrt, ln, powf.
     Negative,
-    /// 4: outside what the operation takes.
+    /// 4: outside what the operation takes; or a sample's size is above 2^20.
     Outside,
     /// 5: powi's power is out of its range.
     PowerOutside,
@@ -35,6 +36,11 @@ pub enum Refusal {
     Small,
     /// 10: the lists of a [`strip`](crate::strip) have not all one length.
     Lengths,
+    /// 11: the record of a [`Grain`](crate::Grain) holds 65536 samples already. Only an offer is refused with it.
+    Full,
+    /// 12: the record of a [`Grain`](crate::Grain) has counted 4294967295 offers, and nothing changes. Only an offer is refused
+    /// with it.
+    WornOut,
     /// One that this version does not know, by its number. It is never one of those above.
     #[non_exhaustive]
     Unknown { number: u32 },
@@ -53,6 +59,8 @@ impl Refusal {
         Refusal::NoRoom,
         Refusal::Small,
         Refusal::Lengths,
+        Refusal::Full,
+        Refusal::WornOut,
     ];
 
     /// Its number, which is never 0.
@@ -68,6 +76,8 @@ impl Refusal {
             Refusal::NoRoom => 8,
             Refusal::Small => 9,
             Refusal::Lengths => 10,
+            Refusal::Full => 11,
+            Refusal::WornOut => 12,
             Refusal::Unknown { number } => number,
         }
     }
@@ -102,6 +112,8 @@ impl Display for Refusal {
             Refusal::NoRoom => "refusal 8: the space for the answer has fewer than 11 bytes",
             Refusal::Small => "refusal 9: the first operand is not 0 and too small to be normal",
             Refusal::Lengths => "refusal 10: the lists have not all one length",
+            Refusal::Full => "refusal 11: the record holds 65536 samples",
+            Refusal::WornOut => "refusal 12: the record has counted 4294967295 offers",
             Refusal::Unknown { number } => return write!(out, "refusal {number}: not known to this version of the binding"),
         })
     }
