@@ -5,6 +5,7 @@ mod edges;
 mod frames;
 mod frames_speed;
 mod gates;
+mod grain;
 mod kernels;
 mod lines;
 mod marks;
@@ -94,12 +95,13 @@ fn main() {
         exit(frames(of));
     }
     let all = if wanted.speed { kernels::beside_the_crate() } else { kernels::all() };
-    if let Some(key) = wanted.only.iter().find(|key| !all.iter().any(|k| k.key() == **key)) {
+    if let Some(key) = wanted.only.iter().find(|key| *key != grain::KEY && !all.iter().any(|k| k.key() == **key)) {
         eprintln!("compare: nothing here has the number or name {key:?}");
         exit(2);
     }
     let wants = |kernel: &Kernel| wanted.only.is_empty() || wanted.only.contains(&kernel.key());
     let chosen: Vec<&Kernel> = all.iter().filter(|k| wants(k)).collect();
+    let wants_grain = wanted.only.is_empty() || wanted.only.iter().any(|key| key == grain::KEY);
 
     if wanted.speed {
         let raw = |kernel: &Kernel| all.iter().find(|k| kernel.is_guarded() && !k.is_guarded() && k.name == kernel.name);
@@ -109,6 +111,9 @@ fn main() {
         }
         for line in chosen.iter().filter_map(|kernel| speed::long(kernel, raw(kernel))) {
             println!("{line}");
+        }
+        if wants_grain {
+            println!("{}", grain::speed());
         }
         return;
     }
@@ -126,6 +131,11 @@ fn main() {
     if wanted.only.is_empty() {
         report("refusals of the call by number", refusals::refusals());
         for (label, count) in strips::strips() {
+            report(label, count);
+        }
+    }
+    if wants_grain {
+        for (label, count) in grain::grain(wanted.every) {
             report(label, count);
         }
     }

@@ -58,8 +58,8 @@ impl Grain {
     }
 
     /// A record that was kept elsewhere, to go on with. Any values may be given, those too that no offers leave: a count of
-    /// 70000 is full, and a NaN or an infinity goes through the steps as IEEE 754 has it, with no say in which bits a NaN then
-    /// has.
+    /// 70000 is full, and a NaN or an infinity goes through the steps as IEEE 754 has it. Which bits a NaN then has is not
+    /// said.
     ///
     /// ```
     /// use dampmeadow::Grain;
@@ -91,13 +91,14 @@ impl Grain {
         self.sum
     }
 
-    /// Offers a sample. Takes |x| to 2^20, the numbers too small to be normal among them. The count is raised by one, to n; with
-    /// d, which is the sample less the mean, the mean gains d / n, and the sum gains d times the sample less the new mean. Each
+    /// Offers a sample. Takes |x| to 2^20, the numbers too small to be normal too, at their value. The count is raised by one,
+    /// to n; with d, which is sample - mean, the mean gains d / n, and the sum gains d * (sample - mean), by the new mean. Each
     /// step is rounded once.
     ///
-    /// The first of these that holds is the refusal: [`Refusal::WornOut`] where [`Grain::MOST_OFFERS`] were counted, and nothing
-    /// changes then; [`Refusal::NotFinite`] for an infinity or a NaN; [`Refusal::Outside`] for a size above 2^20; and
-    /// [`Refusal::Full`] where [`Grain::MOST_SAMPLES`] were taken. With these three one more is refused, and the rest stays.
+    /// Or it is refused, with the first of these that holds: [`Refusal::WornOut`] where [`Grain::MOST_OFFERS`] were counted,
+    /// [`Refusal::NotFinite`] for an infinity or a NaN, [`Refusal::Outside`] for a size above 2^20, and [`Refusal::Full`] where
+    /// [`Grain::MOST_SAMPLES`] were taken. With the first nothing changes; with the others one more is counted as refused, and
+    /// the rest stays.
     ///
     /// ```
     /// use dampmeadow::{Grain, Refusal};
