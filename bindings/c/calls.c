@@ -278,6 +278,7 @@ int main(void)
     taken("0.1 thrice", leap, 3, 0x3dcccccd, 0);
     taken("three that are not normal", small, 3, 0x00000001, 0);
     taken("the last that is not normal, below 0, and the first that is", brink, 2, 0x00000001, 0);
+    taken("-0", zeros, 1, 0, 0);
     taken("-0 thrice", zeros, 3, 0, 0);
     taken("2^20 and -2^20", ends, 2, 0, 0x54000000);
     taken("nothing", four, 0, 0, 0);

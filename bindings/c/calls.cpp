@@ -175,11 +175,17 @@ int main()
     offers("1, 2, 3, 4", fresh, {{1.0f, taken}, {2.0f, taken}, {3.0f, taken}, {4.0f, taken}}, {4, 0, 2.5f, 5.0f});
     offers("2, 4, a NaN and the first above 2^20", fresh, {{2.0f, taken}, {4.0f, taken}, {nan, not_finite}, {above, outside}},
            {2, 2, 3.0f, 2.0f});
+    offers("0.5, 0.8, 0.2, 0.9", fresh, {{0.5f, taken}, {0.8f, taken}, {0.2f, taken}, {0.9f, taken}},
+           {4, 0, dampmeadow_float(0x3f19999a), dampmeadow_float(0x3e99999a)});
     offers("0.1 thrice and 0.6", fresh, {{0.1f, taken}, {0.1f, taken}, {0.1f, taken}, {0.6f, taken}},
            {4, 0, dampmeadow_float(0x3e666666), dampmeadow_float(0x3e400001)});
     offers("2^20, a NaN, the first below -2^20, -2^20", fresh,
            {{large, taken}, {nan, not_finite}, {-above, outside}, {-large, taken}}, {2, 2, 0.0f, dampmeadow_float(0x54000000)});
+    offers("-0", fresh, {{-0.0f, taken}}, {1, 0, 0.0f, 0.0f});
     offers("-0 twice", fresh, {{-0.0f, taken}, {-0.0f, taken}}, {2, 0, 0.0f, 0.0f});
+    const float smallest = dampmeadow_float(0x00000001);
+    offers("the smallest, once with each sign, and thrice it", fresh,
+           {{smallest, taken}, {-smallest, taken}, {3 * smallest, taken}}, {3, 0, smallest, 0.0f});
     offers("infinity, -infinity, the largest, the lowest", fresh,
            {{infinite, not_finite}, {-infinite, not_finite}, {3.40282347e38f, outside}, {-3.40282347e38f, outside}},
            {0, 4, 0.0f, 0.0f});
