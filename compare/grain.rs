@@ -27,13 +27,17 @@ extern "C" {
     fn dampmeadow_grain_offer(grain: *mut Grain, sample: u32) -> u32;
 }
 
-const FRESH: Grain = Grain { count: 0, refused: 0, mean: 0, sum: 0 };
+const FRESH: Grain = Grain::new(0, 0, 0, 0);
 
 const MOST_OFFERS: u64 = 4_294_967_295;
 const MOST_SAMPLES: u32 = 65_536;
 const LARGEST: f32 = 1_048_576.0;
 
 impl Grain {
+    const fn new(count: u32, refused: u32, mean: u32, sum: u32) -> Grain {
+        Grain { count, refused, mean, sum }
+    }
+
     /// The refusal of a sample, or 0.
     #[inline(always)]
     fn refusal(&self, sample: u32) -> u32 {
@@ -67,9 +71,9 @@ impl Grain {
         refusal
     }
 
-    /// Whether mean and sum are both finite.
-    fn is_finite(&self) -> bool {
-        [self.mean, self.sum].iter().all(|word| f32::from_bits(*word).is_finite())
+    /// Whether mean and sum are both finite, and the sum has no sign.
+    fn is_sound(&self) -> bool {
+        [self.mean, self.sum].iter().all(|word| f32::from_bits(*word).is_finite()) && self.sum & SIGN == 0
     }
 }
 
@@ -81,8 +85,8 @@ fn in_floats(n: u32, [mean, sum, x]: [f32; 3]) -> [f32; 2] {
     [mean, sum + d * (x - mean)]
 }
 
-/// The steps in doubles, each rounded to a float. A double has twice the digits of a float and more than two besides, so that the
-/// two roundings of a step come to one.
+/// The steps in doubles, each rounded to a float. A double has twice the digits of a float and more than two besides, so that
+/// the two roundings of a step come to one.
 fn in_doubles(n: u32, operands: [f32; 3]) -> [f32; 2] {
     let [mean, sum, x] = operands.map(f64::from);
     // the compiler, which knows that too, would make a step in floats of it
@@ -111,6 +115,15 @@ fn call(grain: &mut Grain, sample: u32) -> (u32, bool) {
     (refusal, lent.before == [GUARD; 5] && lent.after == [GUARD; 3])
 }
 
+/// Counts an offer as one trial of all that is told of it, each thing as it should be and as it is.
+fn judge(count: &mut Count, before: Grain, sample: u32, told: &[(&str, [u64; 2])]) {
+    let (name, [should, is]) = told.iter().find(|(_, [should, is])| should != is).unwrap_or(&told[0]);
+    count.judge(Some(*should), *is, || {
+        let Grain { count, refused, mean, sum } = before;
+        format!("{sample:08x} offered to {count} + {refused}, mean {mean:08x}, sum {sum:08x}: the {name}")
+    });
+}
+
 /// What a fresh record is once this sample was taken so often, no other was taken, and so many were refused.
 fn of_one_word(sample: u32, count: u32, refused: u32) -> Grain {
     // the mean was +0, and -0 more leaves that
@@ -124,7 +137,7 @@ struct History<'a> {
     /// The samples that were taken and those that were refused, as the answers have it, with what the record began with.
     taken: u32,
     refused: u32,
-    /// It began with a fresh record, so that mean and sum have to stay finite.
+    /// It began with a fresh record, so that mean and sum have to stay finite, and the sum not below 0.
     fresh: bool,
     /// The first sample that was taken, and whether no other was since the record was fresh.
     first: Option<u32>,
@@ -168,14 +181,10 @@ impl History<'_> {
             ("sum of one word", [one.sum, is.sum].map(word)),
             ("count of what was taken", [self.taken, is.count].map(u64::from)),
             ("tally of what was refused", [self.refused, is.refused].map(u64::from)),
-            ("1 of a finite mean and sum", [self.fresh, self.fresh && is.is_finite()].map(u64::from)),
-            ("1 of guard words as they were", [true, kept].map(u64::from)),
+            ("flag of a finite mean and sum, not below 0", [self.fresh, self.fresh && is.is_sound()].map(u64::from)),
+            ("flag of guard words as they were", [true, kept].map(u64::from)),
         ];
-        let (name, [should, is]) = told.into_iter().find(|(_, [should, is])| should != is).unwrap_or(told[0]);
-        self.count.judge(Some(should), is, || {
-            let Grain { count, refused, mean, sum } = before;
-            format!("{sample:08x} offered to {count} + {refused}, mean {mean:08x}, sum {sum:08x}: the {name}")
-        });
+        judge(self.count, before, sample, &told);
     }
 }
 
@@ -201,12 +210,12 @@ const SIZES: [u32; 12] = [
 ];
 
 /// These words, of either sign.
-fn edges() -> impl Iterator<Item = u32> {
+fn ends() -> impl Iterator<Item = u32> {
     SIZES.into_iter().flat_map(|size| [size, size | SIGN])
 }
 
 /// One of them.
-fn edge(random: &mut Random) -> u32 {
+fn end(random: &mut Random) -> u32 {
     random.one_of(&SIZES) | random.word() & SIGN
 }
 
@@ -228,6 +237,64 @@ const KINDS: [Kind; 8] = [
     |random| random.word() & SIGN | 0x4980_0000 - random.below(4) as u32,
 ];
 
+/// A record, a sample, its refusal or 0, and the record afterwards, written by hand apart from the rules above.
+const BY_HAND: [(Grain, u32, u32, Grain); 30] = [
+    // of 1, 3 and 5 the mean is 1, 2 and 3, and the sum 0, 2 and 8
+    (FRESH, 0x3f80_0000, 0, Grain::new(1, 0, 0x3f80_0000, 0)),
+    (Grain::new(1, 0, 0x3f80_0000, 0), 0x4040_0000, 0, Grain::new(2, 0, 0x4000_0000, 0x4000_0000)),
+    (Grain::new(2, 0, 0x4000_0000, 0x4000_0000), 0x40a0_0000, 0, Grain::new(3, 0, 0x4040_0000, 0x4100_0000)),
+    // the zeros, and the smallest number
+    (FRESH, 0x0000_0000, 0, Grain::new(1, 0, 0, 0)),
+    (FRESH, 0x8000_0000, 0, Grain::new(1, 0, 0, 0)),
+    (FRESH, 0x0000_0001, 0, Grain::new(1, 0, 0x0000_0001, 0)),
+    (FRESH, 0x8000_0001, 0, Grain::new(1, 0, 0x8000_0001, 0)),
+    // 4: above 2^20 in size
+    (FRESH, 0x4980_0000, 0, Grain::new(1, 0, 0x4980_0000, 0)),
+    (FRESH, 0xc980_0000, 0, Grain::new(1, 0, 0xc980_0000, 0)),
+    (FRESH, 0x4980_0001, 4, Grain::new(0, 1, 0, 0)),
+    (FRESH, 0xc980_0001, 4, Grain::new(0, 1, 0, 0)),
+    (FRESH, 0x7f7f_ffff, 4, Grain::new(0, 1, 0, 0)),
+    (FRESH, 0xff7f_ffff, 4, Grain::new(0, 1, 0, 0)),
+    // 1: infinities and NaN
+    (FRESH, 0x7f80_0000, 1, Grain::new(0, 1, 0, 0)),
+    (FRESH, 0xff80_0000, 1, Grain::new(0, 1, 0, 0)),
+    (FRESH, 0x7f80_0001, 1, Grain::new(0, 1, 0, 0)),
+    (FRESH, 0xffff_ffff, 1, Grain::new(0, 1, 0, 0)),
+    // 11: 65,536 are taken, after 1 and 4
+    (Grain::new(65_535, 7, 0x3f80_0000, 0x4000_0000), 0x3f80_0000, 0, Grain::new(65_536, 7, 0x3f80_0000, 0x4000_0000)),
+    (Grain::new(65_536, 7, 0x3f80_0000, 0x4000_0000), 0x3f80_0000, 11, Grain::new(65_536, 8, 0x3f80_0000, 0x4000_0000)),
+    (Grain::new(65_536, 7, 0x3f80_0000, 0x4000_0000), 0x4980_0001, 4, Grain::new(65_536, 8, 0x3f80_0000, 0x4000_0000)),
+    (Grain::new(65_536, 7, 0x3f80_0000, 0x4000_0000), 0x7fc0_0000, 1, Grain::new(65_536, 8, 0x3f80_0000, 0x4000_0000)),
+    // 12: 4,294,967,295 were offered, before 1, 4 and 11
+    (Grain::new(0, 4_294_967_294, 0, 0), 0x3f80_0000, 0, Grain::new(1, 4_294_967_294, 0x3f80_0000, 0)),
+    (Grain::new(1, 4_294_967_294, 0x3f80_0000, 0), 0x3f80_0000, 12, Grain::new(1, 4_294_967_294, 0x3f80_0000, 0)),
+    (Grain::new(0, 4_294_967_294, 0, 0), 0x7fc0_0000, 1, Grain::new(0, 4_294_967_295, 0, 0)),
+    (Grain::new(0, 4_294_967_295, 0, 0), 0x7fc0_0000, 12, Grain::new(0, 4_294_967_295, 0, 0)),
+    (Grain::new(0, 4_294_967_295, 0, 0), 0x4980_0001, 12, Grain::new(0, 4_294_967_295, 0, 0)),
+    (Grain::new(65_536, 4_294_901_758, 0x3f80_0000, 0), 0x3f80_0000, 11, Grain::new(65_536, 4_294_901_759, 0x3f80_0000, 0)),
+    (Grain::new(65_536, 4_294_901_759, 0x3f80_0000, 0), 0x3f80_0000, 12, Grain::new(65_536, 4_294_901_759, 0x3f80_0000, 0)),
+    // ... or more, as no history has it
+    (Grain::new(1, 4_294_967_295, 0, 0), 0x3f80_0000, 12, Grain::new(1, 4_294_967_295, 0, 0)),
+    (Grain::new(1 << 31, 1 << 31, 0, 0), 0x3f80_0000, 12, Grain::new(1 << 31, 1 << 31, 0, 0)),
+];
+
+fn by_hand() -> Count {
+    let mut count = Count::default();
+    for (before, sample, refusal, after) in BY_HAND {
+        let mut grain = before;
+        let (is, _) = call(&mut grain, sample);
+        let told = [
+            ("refusal", [refusal, is].map(|n| (n as u64) << 32)),
+            ("count", [after.count, grain.count].map(u64::from)),
+            ("tally", [after.refused, grain.refused].map(u64::from)),
+            ("mean", [after.mean, grain.mean].map(u64::from)),
+            ("sum", [after.sum, grain.sum].map(u64::from)),
+        ];
+        judge(&mut count, before, sample, &told);
+    }
+    count
+}
+
 /// Fresh records and some hundreds of samples at most, of every kind.
 fn histories() -> Count {
     let (mut count, mut random) = (Count::default(), Random::new(7));
@@ -239,7 +306,7 @@ fn histories() -> Count {
         let mut last = one;
         for _ in 0..length {
             last = match random.below(mixed) {
-                0 => edge(&mut random),
+                0 => end(&mut random),
                 1 => random.word(),
                 2 => random.one_of(&KINDS)(&mut random),
                 3 | 4 => last,
@@ -265,7 +332,7 @@ fn full() -> Count {
         }
         let taken = history.grain.count as u64;
         history.count.judge(Some(MOST_SAMPLES as u64), taken, || "the count after as many samples".to_string());
-        for more in edges() {
+        for more in ends() {
             history.offer(more);
             history.offer(kind(&mut random));
         }
@@ -273,17 +340,17 @@ fn full() -> Count {
     count
 }
 
-/// Records that have counted nearly as many offers as they can, or as many, or more, with each edge offered four times in a row.
+/// Records that have counted nearly as many offers as they can, or as many, or more, each end offered four times in a row.
 fn limits() -> Count {
-    const COUNTS: [u32; 11] = [0, 1, 65_534, 65_535, 65_536, 65_537, 0x7fff_ffff, 0x8000_0000, 0xffff_0000, u32::MAX - 1, u32::MAX];
-    const STATISTICS: [[u32; 2]; 4] = [[0, 0], [0x3f80_0000, 0x4000_0000], [0x8000_0000, 0x8000_0001], [0x7f80_0001, 0xff80_0000]];
+    const COUNTS: [u32; 10] = [0, 1, 65_534, 65_535, 65_536, 65_537, 1 << 31, 0xffff_0000, u32::MAX - 1, u32::MAX];
+    const STATISTICS: [[u32; 2]; 4] = [[0, 0], [0x3f80_0000, 0x4000_0000], [SIGN, SIGN + 1], [0x7f80_0001, 0xff80_0000]];
     let mut count = Count::default();
     for taken in COUNTS {
         let left = u32::MAX - taken;
         let about = (0..4).flat_map(|n| [left.saturating_sub(n), left.saturating_add(n)]);
         for refused in about.chain([0, 1, 0x7fff_ffff, 0x8000_0000, u32::MAX - 1, u32::MAX]) {
             for [mean, sum] in STATISTICS {
-                for sample in edges().chain([0x3f80_0000, 0xc2f6_e979]) {
+                for sample in ends().chain([0x3f80_0000, 0xc2f6_e979]) {
                     let mut history = History::new(&mut count, Grain { count: taken, refused, mean, sum });
                     (0..4).for_each(|_| history.offer(sample));
                 }
@@ -299,7 +366,7 @@ fn any() -> Count {
     let word = |random: &mut Random| match random.below(4) {
         0 => random.word(),
         1 => random.one_of(&edges),
-        2 => edge(random),
+        2 => end(random),
         _ => random.one_of(&KINDS)(random),
     };
     for _ in 0..1_000_000 {
@@ -315,7 +382,7 @@ fn any() -> Count {
             1 => 1 << random.below(32),
             2 => (u32::MAX - taken).wrapping_add(2).wrapping_sub(random.below(6) as u32),
             3 => random.below(4) as u32,
-            _ => random.word() >> 1 + random.below(31),
+            _ => random.word() >> (1 + random.below(31)),
         };
         let (mean, sum) = (word(&mut random), word(&mut random));
         let mut history = History::new(&mut count, Grain { count: taken, refused, mean, sum });
@@ -358,7 +425,7 @@ fn one_word() -> Kernel {
 fn one_word_until_full() -> Count {
     const OTHERS: [u32; 7] = [0x3f80_0000, 0x3dcc_cccd, 0xbeaa_aaab, 0x437f_0000, 0xc2f6_e979, 0x477f_ff00, 0x1cff_ffff];
     let mut count = Count::default();
-    for sample in edges().filter(|edge| FRESH.refusal(*edge) == 0).chain(OTHERS) {
+    for sample in ends().filter(|end| FRESH.refusal(*end) == 0).chain(OTHERS) {
         let mut history = History::new(&mut count, FRESH);
         (0..=MOST_SAMPLES).for_each(|_| history.offer(sample));
     }
@@ -366,8 +433,9 @@ fn one_word_until_full() -> Count {
 }
 
 /// What is tried of grain statistics, each count with its label; with `every`, each word again and again.
-pub fn grain(every: bool) -> [(&'static str, Count); 6] {
+pub fn grain(every: bool) -> [(&'static str, Count); 7] {
     [
+        ("grain, by hand", by_hand()),
         ("grain, random histories", histories()),
         ("grain, until the record is full and on", full()),
         ("grain, about the last offer", limits()),
@@ -407,5 +475,5 @@ pub fn speed() -> String {
     let [inline, call, ours] = times.map(median);
     let rust = format!("plain Rust in its loop {inline:.2} ns, plain Rust by a call {call:.2} ns");
     let ours = format!("ours {ours:.2} ns ({:.2} times the loop, {:.2} times the call)", ours / inline, ours / call);
-    format!("grain, {MOST_SAMPLES} samples that are taken, medians of {RUNS} runs of each side in turn, for one: {rust}, {ours}")
+    format!("grain, a sample of {MOST_SAMPLES} that are taken, medians of {RUNS} runs of each side in turn: {rust}, {ours}")
 }

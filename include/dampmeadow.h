@@ -259,8 +259,8 @@ uint64_t dampmeadow_ceil_marked(uint32_t a);
  *
  * Of a record that was fresh and is changed by offers alone it is proved that count is the number of samples taken and refused
  * the number refused, which add up to the offers, up to 4294967295 of them; that mean and sum are finite numbers, never a NaN
- * or an infinity; and that where every sample taken is the same word, sum is +0 and mean is that number, +0 for -0. That sum is
- * never below 0 is not proved, only tried.
+ * or an infinity, and sum is never below 0; and that where every sample taken is the same word, sum is +0 and mean is that
+ * number, +0 for -0.
  */
 struct dampmeadow_grain {
     uint32_t count;   /* how many samples were taken, 65536 at most */

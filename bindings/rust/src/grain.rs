@@ -20,9 +20,8 @@ use crate::{exported, judged, Refusal};
 /// ```
 ///
 /// Of a record from [`Grain::new`] it is proved that the two counts are what they say, and add up to the offers, up to
-/// [`Grain::MOST_OFFERS`]; that mean and sum are finite numbers, never a NaN or an infinity; and that where every sample taken
-/// is the same, bit for bit, the sum is +0 and the mean is that number, +0 for -0. That the sum is never below 0 is not proved,
-/// only tried.
+/// [`Grain::MOST_OFFERS`]; that mean and sum are finite numbers, never a NaN or an infinity, and the sum is never below 0; and
+/// that where every sample taken is the same, bit for bit, the sum is +0 and the mean is that number, +0 for -0.
 ///
 /// Two records compare as their fields do: 0 and -0 are equal, and a NaN equals nothing.
 #[derive(Clone, Copy, Debug, Default, PartialEq)]

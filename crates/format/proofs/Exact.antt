@@ -21,6 +21,16 @@ use Rattle.format.proofs.Value.{word-value, value-word}
 use Rattle.format.proofs.PartsMeaning.{full}
 use Rattle.format.proofs.Same.{zeroOf, zero-fits, same-number, round-nothing}
 
+-- ---- the sign of a product or a quotient
+
+pub unlike-false : (s : Bool) → unlike s false ≡ s
+unlike-false true = refl
+unlike-false false = refl
+
+pub unlike-itself : (s : Bool) → unlike s s ≡ false
+unlike-itself true = refl
+unlike-itself false = refl
+
 -- ---- a finite word's number is exact
 
 -- the two formats' numbers
@@ -108,10 +118,6 @@ nothing-and : (f : Format) (s : Bool) (a c : ℕ) → 0 < a → sum f false 0 s 
 unfolding sum
 nothing-and f true a c p = rw (lt-ltb 0 a p, sub-zero a)
 nothing-and f false a c p = rw (zero-add a)
-
-unlike-false : (s : Bool) → unlike s false ≡ s
-unlike-false true = refl
-unlike-false false = refl
 
 module _ (f : Format) (s : Bool) (m : ℕ) (e : ℤ) (h : T (fits f (fin s m e))) where
   -- less +0

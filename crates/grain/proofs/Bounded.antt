@@ -9,11 +9,11 @@ use mathlib.Core.Bool.{false}
 use lib.Dec.{T, leb, ltb, lit≤, lit<, le→leb, lt→ltb}
 use lib.IntN.{pos}
 use lib.Pow.{pow-mono}
-use lib.Ieee.{Float, binary32, ones, ofInt, ofBits}
+use lib.Ieee.{Float, binary32, ones, sub, ofInt, ofBits}
 use lib.Ieee.Fits.{and-i}
 use lib.Ieee.Scale.{finite}
 use Rattle.format.specs.Fields.{exponent, signBit}
-use Rattle.format.specs.Value.{units, Finite}
+use Rattle.format.specs.Value.{units}
 use Rattle.format.specs.Parts.{written}
 use Rattle.format.proofs.Same.{Counted, counted}
 use Rattle.sizes.proofs.Size.{AtMost, AtLeast, addFits, round-at-least, add-at-most, sub-at-most, mul-within, div-within}
@@ -21,19 +21,20 @@ use Rattle.sizes.proofs.Words.{word-at-most}
 use Rattle.grain.specs.declared.Grain.{Grain}
 use Rattle.grain.specs.Grain.{fresh, mostSamples, largest, taken, turnedAway, recordAfter}
 use Rattle.grain.specs.History.{after, EachTaken}
+use Rattle.grain.proofs.Steady.{nextMean}
 use Rattle.grain.proofs.History.{along}
 
 -- ---- bounds
 
 -- the word of n times 2 ^ j units
-abbrev times : ℕ → ℕ → ℕ
+abbrev pub times : ℕ → ℕ → ℕ
 times n j = signBit binary32 false + written binary32 (n * 2 ^ j)
 
 -- few enough that the word is one
-abbrev Few : ℕ → Type 0
+abbrev pub Few : ℕ → Type 0
 Few n = n ≤ 2 ^ 17
 
-times-is : (n j : ℕ) → Few n → j ≤ 224 → Counted binary32 false (n * 2 ^ j) (times n j)
+pub times-is : (n j : ℕ) → Few n → j ≤ 224 → Counted binary32 false (n * 2 ^ j) (times n j)
 times-is n j h k = counted binary32 false n j (omega arith) (lt-of-le-of-lt (mul-le-mul h (pow-mono k)) (lit< tt))
 
 fits-added : (b c : ℕ) {d B C D : ℕ} → units binary32 b ≡ B → units binary32 c ≡ C → Counted binary32 false D d → B + C ≤ D → T (addFits binary32 b c d)
@@ -55,54 +56,70 @@ pub record Bounded (g : Grain) : Type 0 where
   pub mean-within : AtMost binary32 (times (g .count) 170) (g .mean)
   pub sum-within : AtMost binary32 (times (g .count) 224) (g .sum)
 
-divisor-reaches : (n : ℕ) → Few n → AtLeast binary32 (times n 149) (ofInt binary32 (pos n))
+pub divisor-reaches : (n : ℕ) → Few n → AtLeast binary32 (times n 149) (ofInt binary32 (pos n))
 unfolding ofInt
 divisor-reaches n h =
     let c = times-is n 149 h (lit≤ tt) in
     round-at-least binary32 (times n 149) false n 1 (c .finite) (lit< tt) (le-of-eq (mul-one _ ∙ c .count))
 
-taken-bounded : (g : Grain) (x : Float) → g .count < mostSamples → AtMost binary32 largest x → Bounded g → Bounded (taken g x)
-unfolding taken
-taken-bounded g x l h i =
-    let n = g .count in
+-- the sizes of the steps of one more sample, after n
+pub record Steps (n : ℕ) (mean x : Float) : Type 0 where
+  pub deviation : AtMost binary32 (times (n + 1) 170) (sub binary32 x mean)
+  pub next : AtMost binary32 (times (n + 1) 170) (nextMean binary32 (ofInt binary32 (pos (n + 1))) mean x)
+  pub rest : AtMost binary32 (times (n + 1 + 1) 170) (sub binary32 x (nextMean binary32 (ofInt binary32 (pos (n + 1))) mean x))
+
+pub steps : (n : ℕ) (mean x : Float) → n < mostSamples → AtMost binary32 largest x → AtMost binary32 (times n 170) mean → Steps n mean x
+steps n mean x l h i =
     let now = times-is n 170 (omega arith) (lit≤ tt) in
     let step = times-is 1 170 (lit≤ tt) (lit≤ tt) in
     let next = times-is (n + 1) 170 (omega arith) (lit≤ tt) in
     let then = times-is (n + 1 + 1) 170 (omega arith) (lit≤ tt) in
     let by = times-is (n + 1) 149 (omega arith) (lit≤ tt) in
-    let sum-now = times-is n 224 (omega arith) (lit≤ tt) in
-    let sum-step = times-is 1 224 (lit≤ tt) (lit≤ tt) in
-    let sum-next = times-is (n + 1) 224 (omega arith) (lit≤ tt) in
-    let d = sub-at-most (times (n + 1) 170) h (i .mean-within) (fits-added largest (times n 170) refl (now .count) next (before-them _ n (2 ^ 170) (lit≤ tt))) in
+    let d = sub-at-most (times (n + 1) 170) h i (fits-added largest (times n 170) refl (now .count) next (before-them _ n (2 ^ 170) (lit≤ tt))) in
     let q = div-within (times 1 170) d (divisor-reaches (n + 1) (omega arith)) (step .finite) (rw (by .count) (mul-pos (omega arith) (lit< tt))) (rw (next .count, step .count, by .count) (le-of-eq (across (n + 1) (2 ^ 170) (2 ^ 149)))) in
-    let m = add-at-most (times (n + 1) 170) (i .mean-within) q (fits-added (times n 170) (times 1 170) (now .count) (step .count) next (behind-them _ n (2 ^ 170) (le-of-eq (one-mul _)))) in
-    let e = sub-at-most (times (n + 1 + 1) 170) h m (fits-added largest (times (n + 1) 170) refl (next .count) then (before-them _ (n + 1) (2 ^ 170) (lit≤ tt))) in
-    let p = mul-within (times 1 224) d e (sum-step .finite) (rw (next .count, then .count, sum-step .count) (squared (n + 1) (n + 1 + 1) (omega arith) (omega arith))) in
+    let m = add-at-most (times (n + 1) 170) i q (fits-added (times n 170) (times 1 170) (now .count) (step .count) next (behind-them _ n (2 ^ 170) (le-of-eq (one-mul _)))) in
     record {
-      mean-within = m;
-      sum-within = add-at-most (times (n + 1) 224) (i .sum-within) p (fits-added (times n 224) (times 1 224) (sum-now .count) (sum-step .count) sum-next (behind-them _ n (2 ^ 224) (le-of-eq (one-mul _))));
+      deviation = d;
+      next = m;
+      rest = sub-at-most (times (n + 1 + 1) 170) h m (fits-added largest (times (n + 1) 170) refl (next .count) then (before-them _ (n + 1) (2 ^ 170) (lit≤ tt)));
     }
   where
     across : (n b c : ℕ) → n * b * c ≡ 1 * b * (n * c)
     across n b c = rw (one-mul b, mul-comm n b) (mul-assoc b n c)
 
+pub taken-bounded : (g : Grain) (x : Float) → g .count < mostSamples → AtMost binary32 largest x → Bounded g → Bounded (taken g x)
+unfolding taken
+taken-bounded g x l h i =
+    let n = g .count in
+    let s = steps n (g .mean) x l h (i .mean-within) in
+    let next = times-is (n + 1) 170 (omega arith) (lit≤ tt) in
+    let then = times-is (n + 1 + 1) 170 (omega arith) (lit≤ tt) in
+    let sum-now = times-is n 224 (omega arith) (lit≤ tt) in
+    let sum-step = times-is 1 224 (lit≤ tt) (lit≤ tt) in
+    let sum-next = times-is (n + 1) 224 (omega arith) (lit≤ tt) in
+    let p = mul-within (times 1 224) (s .deviation) (s .rest) (sum-step .finite) (rw (next .count, then .count, sum-step .count) (squared (n + 1) (n + 1 + 1) (omega arith) (omega arith))) in
+    record {
+      mean-within = s .next;
+      sum-within = add-at-most (times (n + 1) 224) (i .sum-within) p (fits-added (times n 224) (times 1 224) (sum-now .count) (sum-step .count) sum-next (behind-them _ n (2 ^ 224) (le-of-eq (one-mul _))));
+    }
+  where
     squared : (a b : ℕ) → a ≤ 2 ^ 16 → b ≤ 2 ^ 17 → a * 2 ^ 170 * (b * 2 ^ 170) ≤ 1 * 2 ^ 224 * 2 ^ 149
     squared a b h k = le-trans (mul-le-mul (mul-le-mul-right (2 ^ 170) h) (mul-le-mul-right (2 ^ 170) k)) (lit≤ tt)
 
 -- ---- a history
 
-away-bounded : (g : Grain) → Bounded g → Bounded (turnedAway g)
+pub away-bounded : (g : Grain) → Bounded g → Bounded (turnedAway g)
 unfolding turnedAway
 away-bounded g i = record { mean-within = i .mean-within; sum-within = i .sum-within }
 
-any : (g : Grain) (ws : List ℕ) → EachTaken (λ w. Unit) g ws
+pub any : (g : Grain) (ws : List ℕ) → EachTaken (λ w. Unit) g ws
 any g [] = tt
 any g (w ∷ ws) = ((λ e. tt), any (recordAfter g w) ws)
 
 pub bounded-after : (g : Grain) (ws : List ℕ) → Bounded g → Bounded (after g ws)
 bounded-after g ws i = along Bounded (λ w. Unit) (λ g w a q h. taken-bounded g (ofBits binary32 w) (a .room) (word-at-most binary32 w largest (lit< tt) (a .within)) h) away-bounded g ws (any g ws) i
 
-fresh-bounded : Bounded fresh
+pub fresh-bounded : Bounded fresh
 fresh-bounded = record { mean-within = nothing 170 (lit≤ tt); sum-within = nothing 224 (lit≤ tt) }
   where
     nothing : (j : ℕ) → j ≤ 224 → AtMost binary32 (times 0 j) (ofBits binary32 0)

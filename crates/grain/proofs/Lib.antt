@@ -4,5 +4,6 @@ pub mod History
 pub mod Steady
 pub mod SameWord
 pub mod Bounded
+pub mod Rising
 pub mod Examples
 pub mod OneAnswer

@@ -3,15 +3,15 @@
 use Prim.Native.Nat.{ℕ, zero, suc, _*_, _^_, _<_}
 use native.Mathlib.Nat.{mul-pos}
 use native.Mathlib.Omega.{arith}
-use mathlib.Core.Path.{_≡_, refl, ap, _∙_}
-use mathlib.Core.Bool.{Bool, true, false, _&&_}
+use mathlib.Core.Path.{_≡_, ap, _∙_}
+use mathlib.Core.Bool.{Bool, false}
 use lib.Dec.{T}
 use lib.IntN.{ℤ, pos}
 use lib.Ieee.{Format, Float, nan, inf, fin, prec, up, down, unlike, add, sub, mul, div, ofInt, fits}
 use lib.Ieee.Exact.{HasValue}
 use lib.Ieee.Fits.{down-pos}
 use Rattle.format.proofs.Same.{zeroOf, zero-fits, less-itself}
-use Rattle.format.proofs.Exact.{zero-times, times-zero, zero-over, zeros-added, zero-is, less-zero, over-one, and-zero, zero-and, one-is, whole-value}
+use Rattle.format.proofs.Exact.{unlike-false, unlike-itself, zero-times, times-zero, zero-over, zeros-added, zero-is, less-zero, over-one, and-zero, zero-and, one-is, whole-value}
 
 abbrev pub nextMean : Format → Float → Float → Float → Float
 nextMean f n mean x = add f mean (div f (sub f x mean) n)
@@ -30,19 +30,15 @@ pub record Stays (f : Format) (n mean x : Float) : Type 0 where
   pub mean-is : nextMean f n mean x ≡ settled x
   pub sum-is : nextSum f n mean (zeroOf false) x ≡ zeroOf false
 
-like : (s : Bool) → (unlike s s ≡ false) × ((unlike s false ≡ s) × (s && true ≡ s))
-like true = (refl, (refl, refl))
-like false = (refl, (refl, refl))
-
 -- from the mean +0, a zero
 zero-stays : (f : Format) (s : Bool) (m : ℕ) (e : ℤ) → 0 < m → Stays f (fin false m e) (zeroOf false) (zeroOf s)
 zero-stays f s m e p =
     let d : sub f (zeroOf s) (zeroOf false) ≡ zeroOf s = less-zero f s 0 (pos 0) (zero-fits f s) in
-    let q : div f (zeroOf s) (fin false m e) ≡ zeroOf s = zero-over f s false m e p ∙ ap zeroOf (like s .1 .0) in
+    let q : div f (zeroOf s) (fin false m e) ≡ zeroOf s = zero-over f s false m e p ∙ ap zeroOf (unlike-false s) in
     let a : add f (zeroOf false) (zeroOf s) ≡ zeroOf false = zeros-added f false s in
     record {
       mean-is = rw (d, q) a;
-      sum-is = rw (d, q, a, d, zero-times f s s 0 (pos 0), like s .0) (zeros-added f false false);
+      sum-is = rw (d, q, a, d, zero-times f s s 0 (pos 0), unlike-itself s) (zeros-added f false false);
     }
 
 -- from the mean +0, the first sample
@@ -71,7 +67,7 @@ next-stays f s m e n k h q =
 
 -- ---- by the count
 
-record Divisor (x : Float) : Type 0 where
+pub record Divisor (x : Float) : Type 0 where
   pub digits : ℕ
   pub power : ℤ
   pub some : 0 < digits
@@ -86,7 +82,7 @@ divisor-of (fin s m e) n p v = record { digits = m; power = e; some = go m (v .1
     go zero h = omega (arith, h, mul-pos p (down-pos e))
     go (suc m) h = omega arith
 
-divisor : (f : Format) (n : ℕ) → suc n < 2 ^ prec f → Divisor (ofInt f (pos (suc n)))
+pub divisor : (f : Format) (n : ℕ) → suc n < 2 ^ prec f → Divisor (ofInt f (pos (suc n)))
 divisor f n h = divisor-of (ofInt f (pos (suc n))) (suc n) (omega arith) (whole-value f (suc n) h)
 
 -- the mean of n samples that are all x
