@@ -1,5 +1,5 @@
--- The mean goes toward a sample and not past it. So the sample lies on one side of the old mean and of the new one, what the sum gains is no number
--- below 0, and of a record that began fresh the sum is none. Assumes nothing.
+-- The mean goes toward a sample and not past it: a sample that lies on one side of the old mean does not lie on the other of the new one. So what
+-- the sum gains is no number below 0, and neither is the sum of a record that began fresh. Assumes nothing.
 use Prim.Native.Nat.{ℕ, zero, suc, _+_, _-_, _*_, _^_, _≤_, _<_}
 use native.Mathlib.Nat.{le-trans, le-of-eq, le-of-lt, lt-of-le-of-lt, mul-assoc, mul-left-comm, one-mul, zero-mul, mul-pos, mul-le-mul-right, le-of-mul-le-mul-right, pow-succ', le-antisymm, add-le-add}
 use native.Mathlib.Numerals.{add-one}
@@ -19,13 +19,14 @@ use lib.Ieee.Exact.{HasValue}
 use lib.Ieee.Fits.{down-pos, add-fits, sub-fits, div-fits}
 use lib.Ieee.Order.{le-of-values}
 use lib.Ieee.Scale.{finite}
-use Rattle.format.specs.Sign.{withSign}
 use Rattle.format.specs.Fields.{negative}
+use Rattle.format.specs.Sign.{withSign}
 use Rattle.format.specs.Value.{units, Finite}
 use Rattle.format.proofs.Value.{word-value, value-word, add-signed, sub-signed}
 use Rattle.format.proofs.Same.{zeroOf, round-nothing}
-use Rattle.sizes.proofs.Sign.{round-signed}
 use Rattle.format.proofs.Exact.{unlike-false, unlike-itself, zero-times, times-zero, less-zero}
+use Rattle.format.proofs.Order.{either}
+use Rattle.sizes.proofs.Sign.{round-signed}
 use Rattle.sizes.proofs.Size.{AtMost, AtLeast, round-at-most, round-at-least, div-within, NotNegative, round-not-negative, add-not-negative}
 use Rattle.sizes.proofs.Words.{word-at-most, units-mono}
 use Rattle.grain.specs.declared.Grain.{Grain}
@@ -34,7 +35,6 @@ use Rattle.grain.specs.History.{after}
 use Rattle.grain.proofs.History.{Accepted, along}
 use Rattle.grain.proofs.Steady.{nextMean, nextSum, Divisor, divisor, stays}
 use Rattle.grain.proofs.Bounded.{times, Few, times-is, divisor-reaches, Bounded, steps, taken-bounded, away-bounded, any, fresh-bounded}
-use Rattle.format.proofs.Order.{either}
 
 abbrev unit : ℕ
 unit = 2 ^ low binary32
@@ -50,8 +50,15 @@ on false false a = a
 abbrev off : Bool → Bool → ℕ → ℕ
 off o s a = on (not o) s a
 
+-- of one size with a sign beside another: how far it lies ahead on a side, and how far behind
+abbrev ahead : Bool → Bool → ℕ → Bool → ℕ → ℕ
+ahead o s a t b = on o s a + off o t b
+
+abbrev behind : Bool → Bool → ℕ → Bool → ℕ → ℕ
+behind o s a t b = off o s a + on o t b
+
 -- a difference that lies on a side
-on-side : (o s : Bool) (a : ℕ) (t : Bool) (b c : ℕ) → off o s a + on o t b < on o s a + off o t b → sum binary32 s a (not t) b c ≡ round binary32 o (on o s a + off o t b - (off o s a + on o t b)) c
+on-side : (o s : Bool) (a : ℕ) (t : Bool) (b c : ℕ) → behind o s a t b < ahead o s a t b → sum binary32 s a (not t) b c ≡ round binary32 o (ahead o s a t b - behind o s a t b) c
 unfolding sum
 on-side true true a true b c h = rw (le-ltb a b (omega arith), lt-ltb b a (omega arith)) (ap (λ (n : ℕ). round binary32 true n c) (let e : a - b ≡ a + 0 - (0 + b) = omega arith in e))
 on-side true true a false b c h = ap (λ (n : ℕ). round binary32 true n c) (let e : a + b ≡ a + b - (0 + 0) = omega arith in e)
@@ -71,19 +78,19 @@ nothing-of : (x : Float) (s : Bool) (a c : ℕ) → 0 < c → a ≡ 0 → x ≡ 
 nothing-of x s a c p e h = record { sign = s; is = h ∙ ap (λ (n : ℕ). round binary32 s n c) e ∙ round-nothing binary32 s c p }
 
 -- the sizes where they are level: the same, or both nothing
-alike : (o s : Bool) (a b : ℕ) → off o s a + on o s b ≡ on o s a + off o s b → a ≡ b
+alike : (o s : Bool) (a b : ℕ) → behind o s a s b ≡ ahead o s a s b → a ≡ b
 alike true true a b h = omega arith
 alike true false a b h = omega arith
 alike false true a b h = omega arith
 alike false false a b h = omega arith
 
-none : (o s : Bool) (a b : ℕ) → off o s a + on o (not s) b ≡ on o s a + off o (not s) b → a + b ≡ 0
+none : (o s : Bool) (a b : ℕ) → behind o s a (not s) b ≡ ahead o s a (not s) b → a + b ≡ 0
 none true true a b h = omega arith
 none true false a b h = omega arith
 none false true a b h = omega arith
 none false false a b h = omega arith
 
-level : (o s : Bool) (a : ℕ) (t : Bool) (b c : ℕ) → 0 < c → off o s a + on o t b ≡ on o s a + off o t b → Nothing (sum binary32 s a (not t) b c)
+level : (o s : Bool) (a : ℕ) (t : Bool) (b c : ℕ) → 0 < c → behind o s a t b ≡ ahead o s a t b → Nothing (sum binary32 s a (not t) b c)
 unfolding sum
 level o true a true b c p h = let e : a ≡ b = alike o true a b h in rw (le-ltb a b (omega arith)) (nothing-of _ _ (a - b) c p (omega arith) refl)
 level o true a false b c p h = nothing-of _ true (a + b) c p (none o true a b h) refl
@@ -240,7 +247,7 @@ same-signs (fin s m k) (inf t) i j h = absurd (j .is)
 same-signs (fin s m k) (fin t n l) i j h = rw (i .is .0 ∙ h ∙ sym (j .is .0), unlike-itself t) (round-not-negative binary32 (m * up k * (n * up l)) (down k * down l))
 
 -- how far apart two sizes with signs are, at most
-apart : (o s t : Bool) (u v : ℕ) → on o s u + off o t v - (off o s u + on o t v) ≤ u + v
+apart : (o s t : Bool) (u v : ℕ) → ahead o s u t v - behind o s u t v ≤ u + v
 apart o s t u v = omega (arith, on-most o s u, on-most (not o) t v)
 
 -- a sample that is a word, and the mean before it; n samples with it, and so 2 at least
@@ -259,13 +266,13 @@ module _ (w n : ℕ) (m : Float) (w-finite : Finite binary32 w) (two : 2 ≤ n) 
 
   -- if the sample lies on a side of the mean, it does not lie on the other of the new one
   not-passed : (o : Bool) → Divisor count → T (finite (sub binary32 x m)) → (after : InUnits (nextMean binary32 count m x))
-      → off o s u + on o (before .sign) (before .size) < on o s u + off o (before .sign) (before .size)
-      → off o s u + on o (after .sign) (after .size) ≤ on o s u + off o (after .sign) (after .size)
+      → behind o s u (before .sign) (before .size) < ahead o s u (before .sign) (before .size)
+      → behind o s u (after .sign) (after .size) ≤ ahead o s u (after .sign) (after .size)
   not-passed o by d-finite after h =
       let t = before .sign in
       let v = before .size in
       let d = sub binary32 x m in
-      let z = on o s u + off o t v - (off o s u + on o t v) in
+      let z = ahead o s u t v - behind o s u t v in
       let d-is : d ≡ round binary32 o z unit = sub-signed binary32 x m s t u v unit (pow-pos (low binary32)) (word-value binary32 w w-finite) (before .is) ∙ on-side o s u t v unit h in
       let d-in = in-units d (sub-fits binary32 x m) d-finite in
       let b = between z (omega arith) (lt-of-le-of-lt (apart o s t u v) (ltb→lt (u + v) (2 ^ 224) small)) in
@@ -279,8 +286,8 @@ module _ (w n : ℕ) (m : Float) (w-finite : Finite binary32 w) (two : 2 ≤ n) 
       add-signed binary32 m q t (q-in .sign) v (q-in .size) unit (pow-pos (low binary32)) (before .is) (q-in .is) ∙ ap (λ (r : Bool). sum binary32 t v r (q-in .size) unit) q-sign in
       go t v (q-in .size) next-is (omega (arith, q-most)) (either (off o t v) (on o t v + q-in .size))
     where
-      go : (t : Bool) (v k : ℕ) → nextMean binary32 count m x ≡ sum binary32 t v o k unit → off o s u + on o t v + k ≤ on o s u + off o t v → (off o t v ≤ on o t v + k) ⊎ (on o t v + k < off o t v)
-          → off o s u + on o (after .sign) (after .size) ≤ on o s u + off o (after .sign) (after .size)
+      go : (t : Bool) (v k : ℕ) → nextMean binary32 count m x ≡ sum binary32 t v o k unit → behind o s u t v + k ≤ ahead o s u t v → (off o t v ≤ on o t v + k) ⊎ (on o t v + k < off o t v)
+          → behind o s u (after .sign) (after .size) ≤ ahead o s u (after .sign) (after .size)
       go t v k e l (inl p) =
           let r = past o t v k unit p in
           let a : AtMost binary32 w (nextMean binary32 count m x) = rw (e ∙ r .is) (round-at-most binary32 w (r .sign) (on o t v + k - off o t v) unit w-finite (pow-pos (low binary32)) (mul-le-mul-right unit (omega (arith, on-most o s u)))) in
@@ -311,10 +318,10 @@ module _ (w n : ℕ) (m : Float) (w-finite : Finite binary32 w) (two : 2 ≤ n) 
     e-sum : e ≡ sum binary32 s u (not (after .sign)) (after .size) unit
     e-sum = sub-signed binary32 x (nextMean binary32 count m x) s (after .sign) u (after .size) unit (pow-pos (low binary32)) (word-value binary32 w w-finite) (after .is)
 
-    gains-on : (o : Bool) → off o s u + on o (before .sign) (before .size) < on o s u + off o (before .sign) (before .size) → NoLess (mul binary32 d e)
-    gains-on o h = go (either (on o s u + off o (after .sign) (after .size)) (off o s u + on o (after .sign) (after .size)))
+    gains-on : (o : Bool) → behind o s u (before .sign) (before .size) < ahead o s u (before .sign) (before .size) → NoLess (mul binary32 d e)
+    gains-on o h = go (either (ahead o s u (after .sign) (after .size)) (behind o s u (after .sign) (after .size)))
       where
-        go : (on o s u + off o (after .sign) (after .size) ≤ off o s u + on o (after .sign) (after .size)) ⊎ (off o s u + on o (after .sign) (after .size) < on o s u + off o (after .sign) (after .size)) → NoLess (mul binary32 d e)
+        go : (ahead o s u (after .sign) (after .size) ≤ behind o s u (after .sign) (after .size)) ⊎ (behind o s u (after .sign) (after .size) < ahead o s u (after .sign) (after .size)) → NoLess (mul binary32 d e)
         go (inl l) = inr (times-nothing d e d-finite (nothing-at e-sum (level o s u (after .sign) (after .size) unit (pow-pos (low binary32)) (le-antisymm (not-passed o by d-finite after h) l))))
         go (inr l) =
             let d-in = in-units d (sub-fits binary32 x m) d-finite in
@@ -323,10 +330,10 @@ module _ (w n : ℕ) (m : Float) (w-finite : Finite binary32 w) (two : 2 ≤ n) 
 
     -- the sizes above the mean and below it, of a difference between them
     abbrev above : ℕ
-    above = on false s u + off false (before .sign) (before .size)
+    above = ahead false s u (before .sign) (before .size)
 
     abbrev below : ℕ
-    below = off false s u + on false (before .sign) (before .size)
+    below = behind false s u (before .sign) (before .size)
 
     gains : NoLess (mul binary32 d e)
     gains = go (either above below) (either below above)
