@@ -16,8 +16,8 @@
  * settings, and then the answers are not ours: docs/GUIDE.md has what changes.)
  *
  * A float goes in and comes out as its 32 bits, its "word": 4.0f is 0x40800000. dampmeadow_bits and dampmeadow_float, below,
- * go from one to the other. Words, and not floats, because a NaN's bits may change when it is handed on as a float. The mean
- * and the sum in a record of grain alone are floats.
+ * go from one to the other. Words, and not floats, because a NaN's bits may change when it is handed on as a float. Only the
+ * mean and the sum in a record of grain are floats.
  */
 #ifndef DAMPMEADOW_H
 #define DAMPMEADOW_H

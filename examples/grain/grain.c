@@ -6,10 +6,11 @@
  * sample, and then how many were taken so far, how many refused, the mean, and the sum of the squared deviations from it; or,
  * where the sample is refused, with which number. A refused sample leaves the mean and the sum as they were. At the end it
  * writes the mean and the spread, which is about the square root of the sum over the count.
- * Exit status: 0, or 1 where something in the input is no number or no sample was taken.
+ * Exit status: 0, or 1 where something in the input is no number, or is one of 63 characters or more, or no sample was taken.
  */
 #include <stdio.h>
 #include <stdlib.h>
+#include <string.h>
 #include "dampmeadow.h"
 
 int main(void)
@@ -20,7 +21,7 @@ int main(void)
     while (scanf("%63s", text) == 1) {
         char *end;
         float sample = strtof(text, &end);
-        if (*end != '\0') {
+        if (*end != '\0' || strlen(text) == sizeof text - 1) { /* what fills the text may have been cut */
             fprintf(stderr, "grain: %s is no number\n", text);
             return 1;
         }

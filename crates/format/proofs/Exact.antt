@@ -1,4 +1,4 @@
--- What a format holds comes back from every step that is exact: a zero added to it or taken from it, and it over 1. A zero times a number or over
+-- What a format holds comes back from every step that is exact: +0 added to it, but for -0, or taken from it, and it over 1. A zero times a number or over
 -- one is a zero, and a whole number of few digits is itself. Same.antt has that a number less itself is +0. Assumes nothing.
 use Prim.Native.Nat.{ℕ, zero, suc, _+_, _*_, _^_, _≤_, _<_}
 use native.Mathlib.Nat.{mul-comm, zero-mul, mul-zero, mul-one, one-mul, mul-pos, add-zero, zero-add, sub-zero, mul-lt-mul-of-pos-right, lt-of-lt-of-le}

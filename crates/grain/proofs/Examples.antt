@@ -9,7 +9,7 @@ use lib.IntN.{pos}
 use lib.Ieee.{binary32, fin, add, sub, mul, div, ofInt, ofBits, toBits}
 use Rattle.grain.specs.declared.Grain.{Grain}
 use Rattle.grain.specs.Grain.{fresh, largest, taken, turnedAway, refusalOf, recordAfter, offered, Leaves}
-use Rattle.grain.specs.History.{after, acceptedIn, refusedIn}
+use Rattle.grain.specs.History.{after, acceptedIn, refusedIn, EachTaken}
 
 -- a record, with its two floats as words
 pub record Words : Type 0 where
@@ -123,11 +123,30 @@ pub counted-through : (acceptedIn (held (four 65534 4294901758 0 0)) (0x4980_000
 unfolding taken turnedAway refusalOf recordAfter
 counted-through = (refl, refl)
 
--- ---- ruled out: the sample taken and its record not stored; a refusal with no trace; 12 with one
+-- every sample that was taken is 1, though a NaN and 2 were offered too: their refusals are 1, 11 and 12
+pub taken-are-alike : EachTaken (λ w. w ≡ 0x3f80_0000) (held (four 65535 4294901757 0 0)) (0x7fc0_0000 ∷ 0x3f80_0000 ∷ 0x4000_0000 ∷ 0x4000_0000 ∷ [])
+unfolding taken turnedAway refusalOf recordAfter
+taken-are-alike = ((λ e. absurd (omega arith)), ((λ e. refl), ((λ e. absurd (omega arith)), ((λ e. absurd (omega arith)), tt))))
 
-pub wrong-leavings : (Leaves fresh 0x3f80_0000 0 fresh → ⊥) × ((Leaves fresh 0x7fc0_0000 1 fresh → ⊥) × (Leaves (held (four 0 4294967295 0 0)) 0 12 (held (four 0 4294967296 0 0)) → ⊥))
+-- ---- an offer in place of a NaN, and what is ruled out: it answers 0; the sample is taken and its record not stored; a refusal with no trace; 12
+-- with one
+
+pub leaves-one-more : Leaves fresh 0x7fc0_0000 1 (turnedAway fresh)
 unfolding taken turnedAway refusalOf recordAfter offered
-wrong-leavings = ((λ l. not-so 0 1 (ap (λ (g : Grain). g .count) (l .1)) (λ e. omega arith)), ((λ l. not-so 0 1 (ap (λ (g : Grain). g .refused) (l .1)) (λ e. omega arith)), (λ l. not-so 4294967296 4294967295 (ap (λ (g : Grain). g .refused) (l .1)) (λ e. omega arith))))
+leaves-one-more = (refl, refl)
+
+pub wrong-leavings : (Leaves fresh 0x7fc0_0000 0 (turnedAway fresh) → ⊥) × ((Leaves fresh 0x3f80_0000 0 fresh → ⊥) × ((Leaves fresh 0x7fc0_0000 1 fresh → ⊥) × (Leaves (held (four 0 4294967295 0 0)) 0 12 (held (four 0 4294967296 0 0)) → ⊥)))
+unfolding taken turnedAway refusalOf recordAfter offered
+wrong-leavings = (
+  (λ l. not-so 0 1 (l .0) (λ e. omega arith)),
+  (
+    (λ l. not-so 0 1 (ap (λ (g : Grain). g .count) (l .1)) (λ e. omega arith)),
+    (
+      (λ l. not-so 0 1 (ap (λ (g : Grain). g .refused) (l .1)) (λ e. omega arith)),
+      (λ l. not-so 4294967296 4294967295 (ap (λ (g : Grain). g .refused) (l .1)) (λ e. omega arith)),
+    ),
+  ),
+)
   where
     not-so : (a b : ℕ) → a ≡ b → (a ≡ b → ⊥) → ⊥
     not-so a b e n = n e

@@ -181,7 +181,7 @@ pub fresh-all-offers : (ws : List ℕ) → length ws ≤ mostOffers → accepted
 fresh-all-offers ws h = all-offers fresh ws (omega arith)
 
 -- of any number of offers, as many as a record counts are taken or refused
-abbrev UpToTheLimit : Grain → List ℕ → Type 0
+abbrev pub UpToTheLimit : Grain → List ℕ → Type 0
 UpToTheLimit g ws = acceptedIn g ws + refusedIn g ws ≡ min (length ws) (mostOffers - (g .count + g .refused))
 
 pub up-to-the-limit : (g : Grain) (ws : List ℕ) → g .count + g .refused ≤ mostOffers → UpToTheLimit g ws

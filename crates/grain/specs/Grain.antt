@@ -1,5 +1,5 @@
 -- A record of samples, and what one more offer makes of it: the refusal's number, and the record afterwards. A sample is a word.
--- `count` is of the samples that were taken and `refused` of those that were not, so their sum is how many were offered. Definitions only.
+-- `count` is of the samples that were taken and `refused` of those that were not, so together they are the offers that were counted. Definitions only.
 use Prim.Native.Nat.{ℕ, _+_}
 use mathlib.Core.Path.{_≡_}
 use mathlib.Core.Bool.{cond}
