@@ -105,7 +105,9 @@ fn main() {
 
     if wanted.speed {
         let raw = |kernel: &Kernel| all.iter().find(|k| kernel.is_guarded() && !k.is_guarded() && k.name == kernel.name);
-        println!("{}", speed::heading());
+        if !chosen.is_empty() {
+            println!("{}", speed::heading());
+        }
         for kernel in &chosen {
             println!("{}", speed::line(kernel, raw(kernel)));
         }

@@ -102,10 +102,10 @@ impl Refusal {
 impl Display for Refusal {
     fn fmt(&self, out: &mut Formatter) -> Result {
         out.pad(match self {
-            Refusal::NotFinite => "refusal 1: an operand is an infinity or a NaN",
+            Refusal::NotFinite => "refusal 1: an operand or a sample is an infinity or a NaN",
             Refusal::Zero => "refusal 2: the first operand is 0 or -0",
             Refusal::Negative => "refusal 3: the first operand is below 0",
-            Refusal::Outside => "refusal 4: outside what the operation takes",
+            Refusal::Outside => "refusal 4: outside what the operation takes, or a sample above 2^20 in size",
             Refusal::PowerOutside => "refusal 5: powi's power is below -1048576 or above 1048576",
             Refusal::NoSuchOperation => "refusal 6: no operation has this number",
             Refusal::Malformed => "refusal 7: the line is no frame, or its second word should be 0",

@@ -329,7 +329,7 @@ fn a_refusal_is_an_error_with_its_number() {
         assert_eq!(Refusal::from_number(number).map_or(0, Refusal::number), number);
     }
     let asked: Result<f32, Box<dyn Error>> = exp(f32::NAN).map_err(Box::from);
-    assert_eq!(asked.unwrap_err().to_string(), "refusal 1: an operand is an infinity or a NaN");
+    assert_eq!(asked.unwrap_err().to_string(), "refusal 1: an operand or a sample is an infinity or a NaN");
 }
 
 #[test]

@@ -18,15 +18,11 @@ use Rattle.format.proofs.Fields.{exponent-lt}
 use Rattle.format.proofs.Order.{either}
 use Rattle.grain.specs.declared.Grain.{Grain}
 use Rattle.grain.specs.declared.Offered.{Offered}
-use Rattle.grain.specs.Grain.{fresh, mostOffers, mostSamples, largest, taken, turnedAway, refusalOf, recordAfter, offered}
+use Rattle.grain.specs.Grain.{fresh, mostOffers, mostSamples, largest, taken, turnedAway, refusalOf, made, recordAfter, offered}
 use Rattle.grain.specs.History.{after, acceptedIn, refusedIn, oneIfTaken, oneIfRefused, EachTaken}
 use Rattle.grain.proofs.Answers.{worn-out}
 
 -- ---- one offer
-
--- what an offer with the refusal n makes of a record
-abbrev pub made : ℕ → Grain → ℕ → Grain
-made n g w = cond (eqb n 12) g (cond (eqb n 0) (taken g (ofBits binary32 w)) (turnedAway g))
 
 -- what one offer adds, when its refusal is n
 pub record Added (n : ℕ) (g r : Grain) : Type 0 where

@@ -1,23 +1,16 @@
 -- One sample offered over and over, in a format: the mean is the sample from the first on, where a zero counts as +0, and the sum stays
 -- +0. Assumes nothing.
-use Prim.Native.Nat.{ℕ, zero, suc, _*_, _^_, _<_}
-use native.Mathlib.Nat.{mul-pos}
+use Prim.Native.Nat.{ℕ, zero, suc, _^_, _<_}
 use native.Mathlib.Omega.{arith}
 use mathlib.Core.Path.{_≡_, ap, _∙_}
 use mathlib.Core.Bool.{Bool, false}
 use lib.Dec.{T}
 use lib.IntN.{ℤ, pos}
-use lib.Ieee.{Format, Float, nan, inf, fin, prec, up, down, unlike, add, sub, mul, div, ofInt, fits}
-use lib.Ieee.Exact.{HasValue}
-use lib.Ieee.Fits.{down-pos}
+use lib.Ieee.{Format, Float, nan, inf, fin, prec, unlike, add, sub, div, ofInt, fits}
 use Rattle.format.proofs.Same.{zeroOf, zero-fits, less-itself}
-use Rattle.format.proofs.Exact.{unlike-false, unlike-itself, zero-times, times-zero, zero-over, zeros-added, zero-is, less-zero, over-one, and-zero, zero-and, one-is, whole-value}
-
-abbrev pub nextMean : Format → Float → Float → Float → Float
-nextMean f n mean x = add f mean (div f (sub f x mean) n)
-
-abbrev pub nextSum : Format → Float → Float → Float → Float → Float
-nextSum f n mean sum x = add f sum (mul f (sub f x mean) (sub f x (nextMean f n mean x)))
+use Rattle.format.proofs.Exact.{unlike-false, unlike-itself, zero-times, times-zero, zero-over, zeros-added, zero-is, less-zero, over-one, and-zero, zero-and, one-is}
+use Rattle.grain.specs.Grain.{nextMean, nextSum}
+use Rattle.grain.proofs.Divisors.{divisor}
 
 -- a number, with +0 for either zero
 abbrev pub settled : Float → Float
@@ -66,24 +59,6 @@ next-stays f s m e n k h q =
     }
 
 -- ---- by the count
-
-pub record Divisor (x : Float) : Type 0 where
-  pub digits : ℕ
-  pub power : ℤ
-  pub some : 0 < digits
-  pub is : x ≡ fin false digits power
-
-divisor-of : (x : Float) (n : ℕ) → 0 < n → HasValue x false n 1 → Divisor x
-divisor-of nan n p v = absurd v
-divisor-of (inf s) n p v = absurd v
-divisor-of (fin s m e) n p v = record { digits = m; power = e; some = go m (v .1); is = ap (λ (t : Bool). fin t m e) (v .0) }
-  where
-    go : (m : ℕ) → m * up e * 1 ≡ n * down e → 0 < m
-    go zero h = omega (arith, h, mul-pos p (down-pos e))
-    go (suc m) h = omega arith
-
-pub divisor : (f : Format) (n : ℕ) → suc n < 2 ^ prec f → Divisor (ofInt f (pos (suc n)))
-divisor f n h = divisor-of (ofInt f (pos (suc n))) (suc n) (omega arith) (whole-value f (suc n) h)
 
 -- the mean of n samples that are all x
 abbrev pub meanOf : ℕ → Float → Float

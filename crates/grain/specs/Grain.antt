@@ -5,7 +5,7 @@ use mathlib.Core.Path.{_≡_}
 use mathlib.Core.Bool.{cond}
 use lib.Dec.{leb, ltb, eqb}
 use lib.IntN.{pos}
-use lib.Ieee.{Float, binary32, add, sub, mul, div, ofInt, ofBits}
+use lib.Ieee.{Format, Float, binary32, add, sub, mul, div, ofInt, ofBits}
 use Rattle.format.specs.Fields.{magnitude}
 use Rattle.format.specs.Classes.{isEndless}
 use Rattle.grain.specs.declared.Grain.{Grain}
@@ -15,13 +15,18 @@ use Rattle.grain.specs.declared.Offered.{Offered}
 abbrev pub fresh : Grain
 fresh = record { count = 0; refused = 0; mean = ofBits binary32 0; sum = ofBits binary32 0 }
 
--- a sample taken: each step is rounded once
+-- the mean gains the deviation over n, and the sum the deviation times the sample less the new mean: each step is rounded once
+abbrev pub nextMean : Format → Float → Float → Float → Float
+nextMean f n mean x = let d = sub f x mean in add f mean (div f d n)
+
+abbrev pub nextSum : Format → Float → Float → Float → Float → Float
+nextSum f n mean sum x = let d = sub f x mean in add f sum (mul f d (sub f x (nextMean f n mean x)))
+
+-- a sample taken: n is the count raised by one
 unfoldable pub taken : Grain → Float → Grain
 taken g x =
-    let n = g .count + 1 in
-    let d = sub binary32 x (g .mean) in
-    let m = add binary32 (g .mean) (div binary32 d (ofInt binary32 (pos n))) in
-    record { count = n; refused = g .refused; mean = m; sum = add binary32 (g .sum) (mul binary32 d (sub binary32 x m)) }
+    let n = ofInt binary32 (pos (g .count + 1)) in
+    record { count = g .count + 1; refused = g .refused; mean = nextMean binary32 n (g .mean) x; sum = nextSum binary32 n (g .mean) (g .sum) x }
 
 -- a sample refused: the statistics stay
 unfoldable pub turnedAway : Grain → Grain
@@ -45,9 +50,12 @@ refusalOf g w =
     (cond (ltb largest (magnitude binary32 w)) 4
     (cond (leb mostSamples (g .count)) 11 0)))
 
--- the record after an offer: as it was where it counts no more, a sample more, or one more refused
+-- what an offer with this refusal makes of a record: as it was where it counts no more, a sample more, or one more refused
+abbrev pub made : ℕ → Grain → ℕ → Grain
+made n g w = cond (eqb n 12) g (cond (eqb n 0) (taken g (ofBits binary32 w)) (turnedAway g))
+
 unfoldable pub recordAfter : Grain → ℕ → Grain
-recordAfter g w = cond (eqb (refusalOf g w) 12) g (cond (eqb (refusalOf g w) 0) (taken g (ofBits binary32 w)) (turnedAway g))
+recordAfter g w = made (refusalOf g w) g w
 
 unfoldable pub offered : Grain → ℕ → Offered
 offered g w = record { refusal = refusalOf g w; grain = recordAfter g w }

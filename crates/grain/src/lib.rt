@@ -2,7 +2,7 @@
 // offer after another changes, here by value. The exported call of `dampmeadow` changes it in place.
 ghost use mathlib.Core.Path.{_≡_};
 ghost use Prim.Native.Nat.{_+_, _<_};
-ghost use Rattle.grain.specs.Grain.{fresh, taken, turnedAway, offered};
+ghost use Rattle.grain.specs.Grain.{fresh, mostOffers, mostSamples, taken, turnedAway, offered};
 use float::F32;
 use float::cast;
 
@@ -80,7 +80,7 @@ impl Grain {
 
 // One more refused, and the statistics as they were.
 fn turned_away(g: Grain) -> Grain
-    requires { ⌜ g .count + g .refused < 4294967295 ⌝ }
+    requires { ⌜ g .count + g .refused < mostOffers ⌝ }
     ensures { λ r. ⌜ r ≡ turnedAway g ⌝ }
 {
     Grain {
@@ -93,7 +93,7 @@ fn turned_away(g: Grain) -> Grain
 
 // One more sample, in Welford's steps, each rounded once.
 fn taken(g: Grain, x: f32) -> Grain
-    requires { ⌜ g .count < 65536 ⌝ }
+    requires { ⌜ g .count < mostSamples ⌝ }
     ensures { λ r. ⌜ r ≡ taken g x ⌝ }
 {
     let n = g.count + 1;
