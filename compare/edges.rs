@@ -172,10 +172,10 @@ const EDGES: &[Row] = &[
     ("atan2 hypot", 0x3f80_0000, 0xdd80_0001, Answers),
     ("atan2 hypot", 0x5d80_0001, 0x5d80_0000, Answers),
     ("atan2 hypot", 0x5d80_0000, 0x5d80_0001, Answers),
-    // cos and sin, |x| to 1024
-    ("cos sin", 0x4480_0000, 0, Answers),
+    // cos and sin, past 256: about 1024, where they ended once
+    ("cos sin", 0x4480_0000, 0, Refuses(4)),
     ("cos sin", 0x4480_0001, 0, Refuses(4)),
-    ("cos sin", 0xc480_0000, 0, Answers),
+    ("cos sin", 0xc480_0000, 0, Refuses(4)),
     ("cos sin", 0xc480_0001, 0, Refuses(4)),
     // 5: powi's power, -1,048,576 to 1,048,576
     ("powi", 0x3f80_0000, 0x0010_0000, Answers),
@@ -325,12 +325,12 @@ const LAST: &[Row] = &[
     ("acos", 0xbf7f_ffff, 0, Gives(0x4049_0a3c)),
     ("acos", 0xbf80_0000, 0, Refuses(4)),
     ("acos", 0xbf80_0001, 0, Refuses(4)),
-    // tan, |x| to 1024
-    ("tan", 0x4480_0000, 0, Answers),
+    // tan, past 256: about 1024, where it ended once
+    ("tan", 0x4480_0000, 0, Refuses(4)),
     ("tan", 0x4480_0001, 0, Refuses(4)),
-    ("tan", 0xc480_0000, 0, Answers),
+    ("tan", 0xc480_0000, 0, Refuses(4)),
     ("tan", 0xc480_0001, 0, Refuses(4)),
-    // ... where the cosine is no zero: it is one at pi/2 and -pi/2, and at bfc90fda, but not at 3fc90fda
+    // ... and within it where the cosine is no zero: it is one at pi/2 and -pi/2, and at bfc90fda, but not at 3fc90fda
     ("tan", 0x3fc9_0fda, 0, Gives(0x4b25_294a)),
     ("tan", 0x3fc9_0fdb, 0, Refuses(4)),
     ("tan", 0x3fc9_0fdc, 0, Answers),
@@ -342,11 +342,11 @@ const LAST: &[Row] = &[
     ("tan", 0x4096_cbe4, 0, Refuses(4)),
     ("tan", 0xc096_cbe4, 0, Refuses(4)),
     ("tan", 0xc096_cbe5, 0, Answers),
-    // 447fa5a9 is the last of them
-    ("tan", 0x447f_a5a8, 0, Answers),
+    // ... and past 256 again: 447fa5a9 is the last to 1024 at which it is a zero
+    ("tan", 0x447f_a5a8, 0, Refuses(4)),
     ("tan", 0x447f_a5a9, 0, Refuses(4)),
     ("tan", 0xc47f_a5a9, 0, Refuses(4)),
-    ("tan", 0xc47f_a5aa, 0, Answers),
+    ("tan", 0xc47f_a5aa, 0, Refuses(4)),
     // the sine of pi is a zero, and the cosine is -1
     ("tan", 0x4049_0fdb, 0, Gives(0x8000_0000)),
     // the two euclids: the divisor is no zero
@@ -461,6 +461,28 @@ const LAST: &[Row] = &[
     ("atan2 hypot", 0x5d80_0001, 0x5d80_0001, Answers),
     ("atan2 hypot", 0x5e00_0000, 0xdd80_0001, Answers),
     ("atan2 hypot", 0xde00_0000, 0x5e00_0000, Answers),
+    // cos, sin and tan, |x| to 256, with either sign
+    ("cos", 0x4380_0000, 0, Gives(0xbd21_2dba)),
+    ("sin", 0x4380_0000, 0, Gives(0xbf7f_cc70)),
+    ("tan", 0x4380_0000, 0, Gives(0x41cb_2477)),
+    ("cos", 0xc380_0000, 0, Gives(0xbd21_2dba)),
+    ("sin", 0xc380_0000, 0, Gives(0x3f7f_cc70)),
+    ("tan", 0xc380_0000, 0, Gives(0xc1cb_2477)),
+    ("cos sin tan", 0x437f_ffff, 0, Answers),
+    ("cos sin tan", 0xc37f_ffff, 0, Answers),
+    ("cos sin tan", 0x4380_0001, 0, Refuses(4)),
+    ("cos sin tan", 0xc380_0001, 0, Refuses(4)),
+    // ... and between 256 and 1024
+    ("cos sin tan", 0x4400_0000, 0, Refuses(4)),
+    ("cos sin tan", 0xc400_0000, 0, Refuses(4)),
+    ("cos sin tan", 0x447f_ffff, 0, Refuses(4)),
+    // 437ce5f2 is the last within it at which the cosine is a zero
+    ("tan", 0x437c_e5f0, 0, Answers),
+    ("tan", 0x437c_e5f1, 0, Refuses(4)),
+    ("tan", 0x437c_e5f2, 0, Refuses(4)),
+    ("tan", 0x437c_e5f3, 0, Answers),
+    ("tan", 0xc37c_e5f2, 0, Refuses(4)),
+    ("tan", 0xc37c_e5f3, 0, Answers),
 ];
 
 impl Says {

@@ -38,8 +38,8 @@ fn exp_takes(x: f32) -> bool {
 const MOST_POWER: i32 = 1_048_576;
 
 /// The magnitudes about which a refusal begins or ends, for one kernel or another. The stored list's random words are made from
-/// them, so that they stay as they are: atan2 and hypot once ended at 2^60. 2^62, at which they end now, and 1, at which asin
-/// and acos end, are edges anyway.
+/// them, so that they stay as they are: atan2 and hypot once ended at 2^60, and cos, sin and tan at 1024. 2^62 and 256, at which
+/// these end now, and 1, at which asin and acos end, are edges anyway.
 pub const ENDS: [f32; 15] =
     [0.0, f32::MIN_POSITIVE, two_to(-60), 0.5, 87.0, 88.0, 1024.0, two_to(23), two_to(31), two_to(32), two_to(60), two_to(64), two_to(125), two_to(126), f32::INFINITY];
 
@@ -65,11 +65,11 @@ impl Gate {
                 "powf" => |x, n| exp_takes(n * F32(x).ln().0),
                 "atan" | "atan_norm" => |x, _| x.abs() < two_to(64),
                 "atan2" | "hypot" => |y, x| (two_to(-60)..=two_to(62)).contains(&y.abs().max(x.abs())),
-                "cos" | "sin" => |x, _| x.abs() <= 1024.0,
+                "cos" | "sin" => |x, _| x.abs() <= 256.0,
                 "asin" => |x, _| x.abs() < 1.0,
                 "acos" => |x, _| x == 0.0 || (two_to(-60)..1.0).contains(&x.abs()),
                 // the cosine of the operand and not of its magnitude: it is 0 at bfc90fda and not at 3fc90fda
-                "tan" => |x, _| x.abs() <= 1024.0 && F32(x).cos().0 != 0.0,
+                "tan" => |x, _| x.abs() <= 256.0 && F32(x).cos().0 != 0.0,
                 "rem_euclid" | "div_euclid" => |x, y| y != 0.0 && (x / y).abs() < two_to(23),
                 _ => |_, _| true,
             },

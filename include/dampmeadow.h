@@ -45,9 +45,9 @@ extern "C" {
  * of a number below 1 is up to 0.118 off, and powf with it: ln of 0.99 is -0.0198 here for -0.01005, and 0.75 to 2 is 0.444 for
  * 0.5625. A power of powi that is too large is an infinity, and of an x under 0.5 in size it gives up early, with 0 or an
  * infinity: 0.4 to 75 is 0. asin is up to 0.018 off and acos 0.029: asin of 0.1 is 0.0940 here for 0.1002, and acos of 0.75 is
- * 0.743 for 0.723. tan is within 0.0013 while it is 1 at most in size, and further off the steeper it gets: of 1.5 it is 14.24
- * for 14.10 and of 1.57 1273 for 1256, and at the steepest angles even its sign may be wrong. Of an angle under 0.00000005 in
- * size it is 0, without the sign.
+ * 0.743 for 0.723. cos and sin are 0.0012 off at most, and so is tan while it is 1 at most in size; it is further off the
+ * steeper it gets: of 1.5 it is 14.24 for 14.10 and of 1.57 1273 for 1256, and at the steepest angles even its sign may be
+ * wrong. Of an angle under 0.00000005 in size it is 0, without the sign.
  *
  * rem_euclid and div_euclid are no estimates. Of an x that is not below 0 rem_euclid is exact. Of one below 0 it is rounded
  * once, and may be |y| itself: -1e-45 by 1 leaves 1. -0 leaves -0, and so does an x below 0 that y divides. div_euclid counts
@@ -56,7 +56,8 @@ extern "C" {
  * the two always agree.
  *
  * The ln(x) of powf's gate and the cos(x) of tan's are this library's own, and powf's product is rounded. That cos(x) is 0 at
- * 729 words, the float nearest to pi/2, 0x3fc90fdb, among them. x over 0 is no number under 2^23: a y of 0 is refused with 4.
+ * 185 words, the float nearest to pi/2, 0x3fc90fdb, among them. An angle past 256 loses its whole turns to rem_euclid by
+ * 0x40c90fdb, 2 pi. x over 0 is no number under 2^23: a y of 0 is refused with 4.
  */
 enum dampmeadow_operation {
     DAMPMEADOW_TRUNC = 0x01,      /* the whole part, toward 0           |x| under 2^32              -2.5 -> -2            */
@@ -81,14 +82,14 @@ enum dampmeadow_operation {
     DAMPMEADOW_ATAN = 0x11,       /* arctangent, in radians             |x| under 2^64              0.5 -> 0.466342807    */
     DAMPMEADOW_ATAN2 = 0x12,      /* the angle of (x, y): y is first    the larger size from 2^-60  1, 2 -> 0.466342807   */
                                   /*                                    to 2^62                                           */
-    DAMPMEADOW_COS = 0x13,        /* cosine of radians                  |x| to 1024                 1 -> 0.540483773      */
-    DAMPMEADOW_SIN = 0x14,        /* sine of radians                    |x| to 1024                 1 -> 0.842167795      */
+    DAMPMEADOW_COS = 0x13,        /* cosine of radians                  |x| to 256                  1 -> 0.540483773      */
+    DAMPMEADOW_SIN = 0x14,        /* sine of radians                    |x| to 256                  1 -> 0.842167795      */
     DAMPMEADOW_HYPOT = 0x15,      /* length of (x, y)                   the larger size from 2^-60  3, 4 -> 5.125         */
                                   /*                                    to 2^62                                           */
     DAMPMEADOW_ASIN = 0x16,       /* arcsine, in radians                |x| under 1                 0.5 -> 0.536748469    */
     DAMPMEADOW_ACOS = 0x17,       /* arccosine, in radians              0, -0, or |x| from 2^-60    0.5 -> 1.04882419     */
                                   /*                                    and under 1                                       */
-    DAMPMEADOW_TAN = 0x18,        /* tangent of radians                 |x| to 1024, cos(x) not 0   1 -> 1.55817401       */
+    DAMPMEADOW_TAN = 0x18,        /* tangent of radians                 |x| to 256, cos(x) not 0    1 -> 1.55817401       */
     DAMPMEADOW_REM_EUCLID = 0x19, /* what whole y leave of x, 0 to |y|  x/y under 2^23 in size      -7, 3 -> 2            */
     DAMPMEADOW_DIV_EUCLID = 0x1a  /* how many whole y those are         x/y under 2^23 in size      -7, 3 -> -3           */
 };

@@ -145,7 +145,11 @@ int main(void)
     gives("atan2 1 0", DAMPMEADOW_ATAN2, 1.0f, 0, 1.57079637f);
     gives("atan2 2^62 -2^62", DAMPMEADOW_ATAN2, 0x1p62f, dampmeadow_bits(-0x1p62f), 2.35619449f);
     gives("cos 1", DAMPMEADOW_COS, 1.0f, 0, 0.540483773f);
+    gives("cos 256", DAMPMEADOW_COS, 256.0f, 0, -0.0393502489f);
+    gives("cos -256", DAMPMEADOW_COS, -256.0f, 0, -0.0393502489f);
     gives("sin 1", DAMPMEADOW_SIN, 1.0f, 0, 0.842167795f);
+    gives("sin 256", DAMPMEADOW_SIN, 256.0f, 0, -0.999213219f);
+    gives("sin -256", DAMPMEADOW_SIN, -256.0f, 0, 0.999213219f);
     gives("hypot 3 4", DAMPMEADOW_HYPOT, 3.0f, dampmeadow_bits(4.0f), 5.125f);
     gives("hypot 0 -2^62", DAMPMEADOW_HYPOT, 0.0f, dampmeadow_bits(-0x1p62f), 0x1p62f);
     gives("asin 0.5", DAMPMEADOW_ASIN, 0.5f, 0, 0.536748469f);
@@ -158,6 +162,8 @@ int main(void)
     gives("tan 1", DAMPMEADOW_TAN, 1.0f, 0, 1.55817401f);
     gives("tan 1.5", DAMPMEADOW_TAN, 1.5f, 0, 14.2437534f);
     gives("tan 1.57", DAMPMEADOW_TAN, 1.57f, 0, 1272.61206f);
+    gives("tan 256", DAMPMEADOW_TAN, 256.0f, 0, 25.3928051f);
+    gives("tan -256", DAMPMEADOW_TAN, -256.0f, 0, -25.3928051f);
     gives("tan -0.00000005", DAMPMEADOW_TAN, -0.00000005f, 0, 0.0f);
     gives("rem_euclid -7 3", DAMPMEADOW_REM_EUCLID, -7.0f, dampmeadow_bits(3.0f), 2.0f);
     gives("rem_euclid -3 3", DAMPMEADOW_REM_EUCLID, -3.0f, dampmeadow_bits(3.0f), -0.0f);
@@ -181,13 +187,18 @@ int main(void)
     refuses("invsqrt -1", DAMPMEADOW_INVSQRT, 0xbf800000, 0, DAMPMEADOW_NEGATIVE);
     refuses("atan2 0 0", DAMPMEADOW_ATAN2, 0, 0, DAMPMEADOW_OUTSIDE);
     refuses("atan2, the first above 2^62 and 0", DAMPMEADOW_ATAN2, 0x5e800001, 0, DAMPMEADOW_OUTSIDE);
+    refuses("cos, the first above 256", DAMPMEADOW_COS, 0x43800001, 0, DAMPMEADOW_OUTSIDE);
+    refuses("cos, the first below -256", DAMPMEADOW_COS, 0xc3800001, 0, DAMPMEADOW_OUTSIDE);
+    refuses("sin, the first above 256", DAMPMEADOW_SIN, 0x43800001, 0, DAMPMEADOW_OUTSIDE);
+    refuses("sin, the first below -256", DAMPMEADOW_SIN, 0xc3800001, 0, DAMPMEADOW_OUTSIDE);
     refuses("hypot 0 0", DAMPMEADOW_HYPOT, 0, 0, DAMPMEADOW_OUTSIDE);
     refuses("hypot 0 and the first below -2^62", DAMPMEADOW_HYPOT, 0, 0xde800001, DAMPMEADOW_OUTSIDE);
     refuses("asin 1", DAMPMEADOW_ASIN, 0x3f800000, 0, DAMPMEADOW_OUTSIDE);
     refuses("acos -1", DAMPMEADOW_ACOS, 0xbf800000, 0, DAMPMEADOW_OUTSIDE);
     refuses("acos, the last below 2^-60", DAMPMEADOW_ACOS, 0x217fffff, 0, DAMPMEADOW_OUTSIDE);
     refuses("tan pi/2", DAMPMEADOW_TAN, 0x3fc90fdb, 0, DAMPMEADOW_OUTSIDE);
-    refuses("tan, the first above 1024", DAMPMEADOW_TAN, 0x44800001, 0, DAMPMEADOW_OUTSIDE);
+    refuses("tan, the first above 256", DAMPMEADOW_TAN, 0x43800001, 0, DAMPMEADOW_OUTSIDE);
+    refuses("tan, the first below -256", DAMPMEADOW_TAN, 0xc3800001, 0, DAMPMEADOW_OUTSIDE);
     refuses("rem_euclid 1 0", DAMPMEADOW_REM_EUCLID, 0x3f800000, 0, DAMPMEADOW_OUTSIDE);
     refuses("rem_euclid 0 0", DAMPMEADOW_REM_EUCLID, 0, 0, DAMPMEADOW_OUTSIDE);
     refuses("rem_euclid 1 and a NaN", DAMPMEADOW_REM_EUCLID, 0x3f800000, nan, DAMPMEADOW_NOT_FINITE);
@@ -205,6 +216,7 @@ int main(void)
     hold("raw abs keeps a NaN's bits", dampmeadow_words(DAMPMEADOW_RAW + DAMPMEADOW_ABS, 0xff800001, 0), 0x7f800001);
     hold("raw asin 1", dampmeadow_words(DAMPMEADOW_RAW + DAMPMEADOW_ASIN, 0x3f800000, 0), 0x3fc90fdb);
     hold("raw acos, the smallest", dampmeadow_words(DAMPMEADOW_RAW + DAMPMEADOW_ACOS, 0x00000001, 0), nan);
+    hold("raw cos 1024", dampmeadow_words(DAMPMEADOW_RAW + DAMPMEADOW_COS, 0x44800000, 0), 0x3f7cc870);
     hold("raw tan pi/2", dampmeadow_words(DAMPMEADOW_RAW + DAMPMEADOW_TAN, 0x3fc90fdb, 0), 0x7f800000);
     hold("raw rem_euclid 0 0", dampmeadow_words(DAMPMEADOW_RAW + DAMPMEADOW_REM_EUCLID, 0, 0), nan);
     hold("raw div_euclid 0 0", dampmeadow_words(DAMPMEADOW_RAW + DAMPMEADOW_DIV_EUCLID, 0, 0), 0x7f800000);

@@ -212,24 +212,29 @@ pub fn atan2(y: f32, x: f32) -> Result<f32, Refusal> {
     guarded(Operation::Atan2, y.to_bits(), x.to_bits())
 }
 
-/// The cosine of x radians. Takes |x| to 1024.
+/// The cosine of x radians, 0.0012 off at most. Takes |x| to 256, some 40 turns: whole turns are taken off a larger angle by
+/// [`rem_euclid`].
 ///
 /// ```
-/// use dampmeadow::{cos, Refusal};
+/// use core::f32::consts::TAU;
+/// use dampmeadow::{cos, rem_euclid, Refusal};
 /// assert_eq!(cos(0.0), Ok(1.0));
 /// assert_eq!(cos(1.0), Ok(0.540483773)); // 0.54030 is true
-/// assert_eq!(cos(2000.0), Err(Refusal::Outside));
+/// assert_eq!(cos(256.0), Ok(-0.0393502489)); // -0.03979 is true
+/// assert_eq!(cos(1000.0), Err(Refusal::Outside));
+/// assert_eq!(rem_euclid(1000.0, TAU).and_then(cos), Ok(0.562676728)); // 0.56238 is true
 /// ```
 pub fn cos(x: f32) -> Result<f32, Refusal> {
     guarded(Operation::Cos, x.to_bits(), 0)
 }
 
-/// The sine of x radians. Takes |x| to 1024.
+/// The sine of x radians, 0.0012 off at most. Takes |x| to 256; for a larger angle see [`cos`].
 ///
 /// ```
 /// use dampmeadow::{sin, Refusal};
 /// assert_eq!(sin(1.0), Ok(0.842167795)); // 0.84147 is true
-/// assert_eq!(sin(2000.0), Err(Refusal::Outside));
+/// assert_eq!(sin(256.0), Ok(-0.999213219)); // -0.99921 is true
+/// assert_eq!(sin(300.0), Err(Refusal::Outside));
 /// ```
 pub fn sin(x: f32) -> Result<f32, Refusal> {
     guarded(Operation::Sin, x.to_bits(), 0)
@@ -269,8 +274,8 @@ pub fn acos(x: f32) -> Result<f32, Refusal> {
     guarded(Operation::Acos, x.to_bits(), 0)
 }
 
-/// The tangent of x radians. Takes |x| to 1024, but not where this library's [`cos`] of x is 0, as it is of the float nearest
-/// to pi/2. It is within 0.0013 while it is 1 at most in size, and further off the steeper it gets; at the steepest angles even
+/// The tangent of x radians. Takes |x| to 256, but not where this library's [`cos`] of x is 0, as it is of the float nearest
+/// to pi/2. It is within 0.0012 while it is 1 at most in size, and further off the steeper it gets; at the steepest angles even
 /// its sign may be wrong. Of an angle under 0.00000005 in size it is 0, without the sign.
 ///
 /// ```
@@ -280,6 +285,7 @@ pub fn acos(x: f32) -> Result<f32, Refusal> {
 /// assert_eq!(tan(1.5), Ok(14.2437534)); // 14.10142 is true
 /// assert_eq!(tan(-1.0e-8).map(f32::to_bits), Ok(0));
 /// assert_eq!(tan(FRAC_PI_2), Err(Refusal::Outside));
+/// assert_eq!(tan(300.0), Err(Refusal::Outside));
 /// ```
 pub fn tan(x: f32) -> Result<f32, Refusal> {
     guarded(Operation::Tan, x.to_bits(), 0)

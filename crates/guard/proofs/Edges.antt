@@ -15,7 +15,7 @@ use Rattle.guard.specs.Gates.{low, high, other, gateOf, judgedSize, judg
 use Rattle.guard.specs.Refusals.{twoFloats, refusesZero, refusesSmall, refusesSign, refusalBehind, refusalOf}
 use Rattle.guard.specs.Guarded.{valueOf}
 
--- ---- the ends as numbers: 2 ^ 32, 2 ^ 31, 2 ^ 23, 2 ^ 126, 2 ^ 125, -87, 88, 2 ^ 64, 2 ^ -60, 2 ^ 62, 1024 and 1
+-- ---- the ends as numbers: 2 ^ 32, 2 ^ 31, 2 ^ 23, 2 ^ 126, 2 ^ 125, -87, 88, 2 ^ 64, 2 ^ -60, 2 ^ 62, 1 and 256
 
 -- the word above an end that is under a bound
 abbrev under : ℕ → ℕ
@@ -29,14 +29,19 @@ from op = low (gateOf op)
 
 pub ends-are-numbers : map (ofBits binary32)
     (under opTrunc ∷ under opFract ∷ to opFloor ∷ to opCeil ∷ under opRound ∷ to opInv ∷ to opRecip ∷ from opExp ∷ to opExp ∷ from opPowf ∷ to opPowf
-    ∷ under opAtan ∷ from opAtan2 ∷ to opAtan2 ∷ from opHypot ∷ to opHypot ∷ to opCos ∷ to opSin
-    ∷ under opAsin ∷ from opAcos ∷ under opAcos ∷ to opTan ∷ under opRemEuclid ∷ under opDivEuclid ∷ [])
+    ∷ under opAtan ∷ from opAtan2 ∷ to opAtan2 ∷ from opHypot ∷ to opHypot
+    ∷ under opAsin ∷ from opAcos ∷ under opAcos ∷ under opRemEuclid ∷ under opDivEuclid ∷ [])
     ≡ fin false 1 (pos 32) ∷ fin false 1 (pos 32) ∷ fin false 1 (pos 31) ∷ fin false 1 (pos 31) ∷ fin false 1 (pos 23) ∷ fin false 1 (pos 126) ∷ fin false 1 (pos 125)
     ∷ fin true 87 (pos 0) ∷ fin false 11 (pos 3) ∷ fin true 87 (pos 0) ∷ fin false 11 (pos 3)
-    ∷ fin false 1 (pos 64) ∷ fin false 1 (negsuc 59) ∷ fin false 1 (pos 62) ∷ fin false 1 (negsuc 59) ∷ fin false 1 (pos 62) ∷ fin false 1 (pos 10) ∷ fin false 1 (pos 10)
-    ∷ fin false 1 (pos 0) ∷ fin false 1 (negsuc 59) ∷ fin false 1 (pos 0) ∷ fin false 1 (pos 10) ∷ fin false 1 (pos 23) ∷ fin false 1 (pos 23) ∷ []
+    ∷ fin false 1 (pos 64) ∷ fin false 1 (negsuc 59) ∷ fin false 1 (pos 62) ∷ fin false 1 (negsuc 59) ∷ fin false 1 (pos 62)
+    ∷ fin false 1 (pos 0) ∷ fin false 1 (negsuc 59) ∷ fin false 1 (pos 0) ∷ fin false 1 (pos 23) ∷ fin false 1 (pos 23) ∷ []
 unfolding ofBits
 ends-are-numbers = refl
+
+-- cos, sin and tan end together, at 256
+pub angles-end : map (ofBits binary32) (to opCos ∷ to opSin ∷ to opTan ∷ []) ≡ fin false 1 (pos 8) ∷ fin false 1 (pos 8) ∷ fin false 1 (pos 8) ∷ []
+unfolding ofBits
+angles-end = refl
 
 -- ---- the operations that a refusal is about, of all
 
@@ -180,11 +185,14 @@ ends =
     ∷ at opHypot 0xde80_0001 0x0000_0000 4
     ∷ at opHypot 0x0000_0000 0x5e80_0000 0
     ∷ at opHypot 0x0000_0000 0x5e80_0001 4
-    ∷ at opCos 0x4480_0000 0x0000_0000 0
-    ∷ at opCos 0xc480_0000 0x0000_0000 0
-    ∷ at opCos 0x4480_0001 0x0000_0000 4
-    ∷ at opSin 0x4480_0000 0x0000_0000 0
-    ∷ at opSin 0x4480_0001 0x0000_0000 4
+    ∷ at opCos 0x4380_0000 0x0000_0000 0
+    ∷ at opCos 0xc380_0000 0x0000_0000 0
+    ∷ at opCos 0x4380_0001 0x0000_0000 4
+    ∷ at opCos 0xc380_0001 0x0000_0000 4
+    ∷ at opSin 0x4380_0000 0x0000_0000 0
+    ∷ at opSin 0xc380_0000 0x0000_0000 0
+    ∷ at opSin 0x4380_0001 0x0000_0000 4
+    ∷ at opSin 0xc380_0001 0x0000_0000 4
     ∷ at opAsin 0x3f7f_ffff 0x0000_0000 0
     ∷ at opAsin 0xbf7f_ffff 0x0000_0000 0
     ∷ at opAsin 0x3f80_0000 0x0000_0000 4
@@ -201,10 +209,10 @@ ends =
     ∷ at opAcos 0xbf7f_ffff 0x0000_0000 0
     ∷ at opAcos 0x3f80_0000 0x0000_0000 4
     ∷ at opAcos 0xbf80_0000 0x0000_0000 4
-    ∷ at opTan 0x4480_0000 0x0000_0000 0
-    ∷ at opTan 0xc480_0000 0x0000_0000 0
-    ∷ at opTan 0x4480_0001 0x0000_0000 4
-    ∷ at opTan 0xc480_0001 0x0000_0000 4
+    ∷ at opTan 0x4380_0000 0x0000_0000 0
+    ∷ at opTan 0xc380_0000 0x0000_0000 0
+    ∷ at opTan 0x4380_0001 0x0000_0000 4
+    ∷ at opTan 0xc380_0001 0x0000_0000 4
     ∷ at opTan 0x3fc9_0fda 0x0000_0000 0
     ∷ at opTan 0xbfc9_0fda 0x0000_0000 4
     ∷ at opTan 0x3fc9_0fdb 0x0000_0000 4

@@ -57,12 +57,12 @@ gates =
     ∷ between 0xc2ae_0000 0x42b0_0000  -- powf: the product from -87 to 88
     ∷ between 0x0000_0000 0x5f7f_ffff  -- atan: |x| under 2 ^ 64
     ∷ between 0x2180_0000 0x5e80_0000  -- atan2: from 2 ^ -60 to 2 ^ 62
-    ∷ between 0x0000_0000 0x4480_0000  -- cos: |x| to 1024
-    ∷ between 0x0000_0000 0x4480_0000  -- sin: the same
+    ∷ between 0x0000_0000 0x4380_0000  -- cos: |x| to 256
+    ∷ between 0x0000_0000 0x4380_0000  -- sin: the same
     ∷ between 0x2180_0000 0x5e80_0000  -- hypot: as atan2
     ∷ between 0x0000_0000 0x3f7f_ffff  -- asin: |x| under 1
     ∷ row 0x2180_0000 0x3f7f_ffff 0x0000_0000  -- acos: |x| from 2 ^ -60 and under 1, and 0
-    ∷ between 0x0000_0000 0x4480_0000  -- tan: as cos
+    ∷ between 0x0000_0000 0x4380_0000  -- tan: as cos
     ∷ between 0x0000_0000 0x4aff_ffff  -- rem_euclid: |x / y| under 2 ^ 23
     ∷ between 0x0000_0000 0x4aff_ffff  -- div_euclid: the same
     ∷ []

@@ -42,12 +42,12 @@ const GATES: [Gate; 27] = [
     Gate(0xc2ae_0000, 0x42b0_0000, NONE), // powf: the product from -87 to 88
     Gate(0x0000_0000, 0x5f7f_ffff, NONE), // atan: |x| under 2^64
     Gate(0x2180_0000, 0x5e80_0000, NONE), // atan2: from 2^-60 to 2^62
-    Gate(0x0000_0000, 0x4480_0000, NONE), // cos: |x| to 1024
-    Gate(0x0000_0000, 0x4480_0000, NONE), // sin: the same
+    Gate(0x0000_0000, 0x4380_0000, NONE), // cos: |x| to 256
+    Gate(0x0000_0000, 0x4380_0000, NONE), // sin: the same
     Gate(0x2180_0000, 0x5e80_0000, NONE), // hypot: as atan2
     Gate(0x0000_0000, 0x3f7f_ffff, NONE), // asin: |x| under 1
     Gate(0x2180_0000, 0x3f7f_ffff, 0x0000_0000), // acos: |x| from 2^-60 and under 1, and 0
-    Gate(0x0000_0000, 0x4480_0000, NONE), // tan: as cos
+    Gate(0x0000_0000, 0x4380_0000, NONE), // tan: as cos
     Gate(0x0000_0000, 0x4aff_ffff, NONE), // rem_euclid: |x / y| under 2^23
     Gate(0x0000_0000, 0x4aff_ffff, NONE), // div_euclid: the same
 ];
