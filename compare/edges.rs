@@ -330,7 +330,7 @@ const LAST: &[Row] = &[
     ("tan", 0x4480_0001, 0, Refuses(4)),
     ("tan", 0xc480_0000, 0, Refuses(4)),
     ("tan", 0xc480_0001, 0, Refuses(4)),
-    // ... and within it where the cosine is no zero: it is one at pi/2 and -pi/2, and at bfc90fda, but not at 3fc90fda
+    // ... and within 256 where the cosine is no zero: it is one at pi/2 and -pi/2, and at bfc90fda, but not at 3fc90fda
     ("tan", 0x3fc9_0fda, 0, Gives(0x4b25_294a)),
     ("tan", 0x3fc9_0fdb, 0, Refuses(4)),
     ("tan", 0x3fc9_0fdc, 0, Answers),
@@ -476,11 +476,14 @@ const LAST: &[Row] = &[
     ("cos sin tan", 0x4400_0000, 0, Refuses(4)),
     ("cos sin tan", 0xc400_0000, 0, Refuses(4)),
     ("cos sin tan", 0x447f_ffff, 0, Refuses(4)),
-    // 437ce5f2 is the last within it at which the cosine is a zero
+    ("cos sin tan", 0xc47f_ffff, 0, Refuses(4)),
+    // 437ce5f2 is the last to 256 at which the cosine is a zero
     ("tan", 0x437c_e5f0, 0, Answers),
     ("tan", 0x437c_e5f1, 0, Refuses(4)),
     ("tan", 0x437c_e5f2, 0, Refuses(4)),
     ("tan", 0x437c_e5f3, 0, Answers),
+    ("tan", 0xc37c_e5f0, 0, Answers),
+    ("tan", 0xc37c_e5f1, 0, Refuses(4)),
     ("tan", 0xc37c_e5f2, 0, Refuses(4)),
     ("tan", 0xc37c_e5f3, 0, Answers),
 ];

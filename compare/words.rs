@@ -34,7 +34,7 @@ impl Random {
         within(self.word())
     }
 
-    /// A word within four of an end of some gate, of either sign, or any word.
+    /// A word within four of one of the `ENDS`, of either sign, or any word.
     pub fn operand(&mut self) -> u32 {
         let (w, kind) = (self.word(), self.word());
         if kind % 2 == 0 {
@@ -154,7 +154,7 @@ fn within(w: u32) -> u32 {
 }
 
 /// Each sign and exponent field with the fractions 0, 1 and 2, those about the half, and the last two; small whole numbers as
-/// words, and as powers in two's complement; then the words within four of each end of a gate.
+/// words, and as powers in two's complement; then the words within four of each of the `ENDS`.
 pub fn edges() -> Vec<u32> {
     let mut words = Vec::new();
     for field in 0..=255u32 {

@@ -56,8 +56,9 @@ extern "C" {
  * the two always agree.
  *
  * The ln(x) of powf's gate and the cos(x) of tan's are this library's own, and powf's product is rounded. That cos(x) is 0 at
- * 185 words, the float nearest to pi/2, 0x3fc90fdb, among them. An angle past 256 loses its whole turns to rem_euclid by
- * 0x40c90fdb, 2 pi. x over 0 is no number under 2^23: a y of 0 is refused with 4.
+ * 185 words, the float nearest to pi/2, 0x3fc90fdb, among them. x over 0 is no number under 2^23: a y of 0 is refused with 4.
+ *
+ * Of an angle that is larger than 256, take off the whole turns first: rem_euclid by 2 pi, 0x40c90fdb, leaves the rest.
  */
 enum dampmeadow_operation {
     DAMPMEADOW_TRUNC = 0x01,      /* the whole part, toward 0           |x| under 2^32              -2.5 -> -2            */

@@ -123,8 +123,13 @@ int main()
     hold("inv -2^126", call(DAMPMEADOW_INV, dampmeadow_float(0xfe800000)), {DAMPMEADOW_ANSWERED, dampmeadow_float(0x80800000)});
     hold("inv -2^-126", call(DAMPMEADOW_INV, dampmeadow_float(0x80800000)), {DAMPMEADOW_ANSWERED, dampmeadow_float(0xfe800000)});
     hold("inv, the first below -2^126", call(DAMPMEADOW_INV, dampmeadow_float(0xfe800001)), {DAMPMEADOW_OUTSIDE, 0.0f});
+    const float beyond = dampmeadow_float(0x43800001); // the first above 256
     hold("cos 256", call(DAMPMEADOW_COS, 256.0f), {DAMPMEADOW_ANSWERED, -0.0393502489f});
-    hold("cos 300", call(DAMPMEADOW_COS, 300.0f), {DAMPMEADOW_OUTSIDE, 0.0f});
+    hold("cos, the first above 256", call(DAMPMEADOW_COS, beyond), {DAMPMEADOW_OUTSIDE, 0.0f});
+    hold("sin -256", call(DAMPMEADOW_SIN, -256.0f), {DAMPMEADOW_ANSWERED, 0.999213219f});
+    hold("sin, the first below -256", call(DAMPMEADOW_SIN, -beyond), {DAMPMEADOW_OUTSIDE, 0.0f});
+    hold("tan 256", call(DAMPMEADOW_TAN, 256.0f), {DAMPMEADOW_ANSWERED, 25.3928051f});
+    hold("tan, the first above 256", call(DAMPMEADOW_TAN, beyond), {DAMPMEADOW_OUTSIDE, 0.0f});
     hold("hypot 3 4", call(DAMPMEADOW_HYPOT, 3.0f, 4.0f), {DAMPMEADOW_ANSWERED, 5.125f});
     hold("hypot 0 0", call(DAMPMEADOW_HYPOT, 0.0f, 0.0f), {DAMPMEADOW_OUTSIDE, 0.0f});
     const float most = dampmeadow_float(0x5e800000), past = dampmeadow_float(0x5e800001); // 2^62 and the first above it

@@ -212,8 +212,8 @@ pub fn atan2(y: f32, x: f32) -> Result<f32, Refusal> {
     guarded(Operation::Atan2, y.to_bits(), x.to_bits())
 }
 
-/// The cosine of x radians, 0.0012 off at most. Takes |x| to 256, some 40 turns: whole turns are taken off a larger angle by
-/// [`rem_euclid`].
+/// The cosine of x radians, 0.0012 off at most. Takes |x| to 256, some 40 turns. Of a larger angle, take off the whole turns
+/// first, with [`rem_euclid`].
 ///
 /// ```
 /// use core::f32::consts::TAU;
@@ -276,7 +276,7 @@ pub fn acos(x: f32) -> Result<f32, Refusal> {
 
 /// The tangent of x radians. Takes |x| to 256, but not where this library's [`cos`] of x is 0, as it is of the float nearest
 /// to pi/2. It is within 0.0012 while it is 1 at most in size, and further off the steeper it gets; at the steepest angles even
-/// its sign may be wrong. Of an angle under 0.00000005 in size it is 0, without the sign.
+/// its sign may be wrong. Of an angle under 0.00000005 in size it is 0, without the sign. For a larger angle see [`cos`].
 ///
 /// ```
 /// use core::f32::consts::FRAC_PI_2;
