@@ -274,9 +274,9 @@ pub fn acos(x: f32) -> Result<f32, Refusal> {
     guarded(Operation::Acos, x.to_bits(), 0)
 }
 
-/// The tangent of x radians. Takes |x| to 256, but not where this library's [`cos`] of x is 0, as it is of the float nearest
-/// to pi/2. It is within 0.0012 while it is 1 at most in size, and further off the steeper it gets; at the steepest angles even
-/// its sign may be wrong. Of an angle under 0.00000005 in size it is 0, without the sign. For a larger angle see [`cos`].
+/// The tangent of x radians. Takes |x| to 256, as [`cos`] does, but not where this library's cosine of x is 0, as it is of the
+/// float nearest to pi/2. It is within 0.0012 while it is 1 at most in size, and further off the steeper it gets; at the
+/// steepest angles even its sign may be wrong. Of an angle under 0.00000005 in size it is 0, without the sign.
 ///
 /// ```
 /// use core::f32::consts::FRAC_PI_2;
