@@ -77,6 +77,7 @@ module _ (a : ℕ) where
   to125 : passes (gateOf opRecip) (magnitude binary32 a) ≡ true → magnitude binary32 a ≤ 0x7e00_0000
   to125 e = let r = by-magnitude (gateOf opRecip) a refl e in omega arith
 
+  -- for sin and tan too, whose rows are the same
   to1024 : passes (gateOf opCos) (magnitude binary32 a) ≡ true → magnitude binary32 a ≤ 0x4480_0000
   to1024 e = let r = by-magnitude (gateOf opCos) a refl e in omega arith
 
@@ -96,7 +97,7 @@ module _ (a : ℕ) where
     where
       go : (t : Bool) → isZero binary32 c ≡ t → passes (gateOf opTan) (cond t (infWord binary32) (magnitude binary32 a)) ≡ true → (magnitude binary32 a ≤ 0x4480_0000) × (0 < magnitude binary32 c)
       go true d e = absurd (false≢true e)
-      go false d e = (let r = by-magnitude (gateOf opTan) a refl e in omega arith, pos-of-ne-zero (eqb-false _ _ d))
+      go false d e = (to1024 e, pos-of-ne-zero (eqb-false _ _ d))
 
 pub quotient-under : (a b : ℕ) → passes (gateOf opDivEuclid) (magnitude binary32 (quotientWord a b)) ≡ true → magnitude binary32 (quotientWord a b) < 0x4b00_0000
 quotient-under a b e = let r = by-magnitude (gateOf opDivEuclid) (quotientWord a b) refl e in omega arith
