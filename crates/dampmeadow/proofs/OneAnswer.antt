@@ -2,7 +2,7 @@
 use Prim.Native.Nat.{ℕ}
 use mathlib.Core.Path.{_≡_, ap, _∙_}
 use mathlib.Core.List.{List}
-use lib.Ieee.{binary32}
+use lib.Ieee.{binary32, ofBits}
 use contract.Lifetimes.{Lfts}
 use denote.Ref.{now}
 use Rattle.format.specs.Parts.{truncWord, fractWord}
@@ -11,6 +11,7 @@ use Rattle.guard.specs.Refusals.{refusalOf}
 use Rattle.frame.specs.Words.{wordBeside}
 use Rattle.frame.specs.Frame.{returned, left}
 use Rattle.frame.proofs.OneAnswer.{seen}
+use Rattle.recipe.proofs.OneAnswer.{one-words}
 use Rattle.strip.proofs.OneAnswer as strip
 use Rattle.grain.specs.declared.Grain.{Grain}
 use Rattle.grain.specs.Grain.{Leaves}
@@ -20,6 +21,7 @@ use Rattle.dampmeadow.proofs.dampmeadow_words.Reads as words
 use Rattle.dampmeadow.proofs.dampmeadow_atan_norm.Reads as atan-norm
 use Rattle.dampmeadow.proofs.dampmeadow_atan_norm_guarded.Reads as atan-norm-guarded
 use Rattle.dampmeadow.proofs.dampmeadow_parts.Reads as parts-reads
+use Rattle.dampmeadow.proofs.dampmeadow_recipe.Reads as recipe-reads
 use Rattle.dampmeadow.proofs.dampmeadow_strip.Reads as strip-reads
 use Rattle.dampmeadow.proofs.dampmeadow_floor_marked.Reads as floor-marked
 use Rattle.dampmeadow.proofs.dampmeadow_ceil_marked.Reads as ceil-marked
@@ -53,6 +55,9 @@ partsOf a = let n = refusalOf opTrunc a 0 in seenParts n (wordBeside n (truncWor
 pub dampmeadow-parts : (κs : Lfts 2) → OneAnswer (parts-reads.Post κs) (λ r x. seenParts r (now (x .1 .0)) (now (x .1 .1 .0)))
 unfolding partsOf
 dampmeadow-parts κs = pinned (λ a. partsOf (a .0)) (λ a r x p. rw (p .0, p .1 .0, p .1 .1))
+
+pub dampmeadow-recipe : (κs : Lfts 1) → OneAnswer (recipe-reads.Post κs) (λ r x. r)
+dampmeadow-recipe κs a r s x y p q = one-words (now (a .0)) (ofBits binary32 (a .1 .0)) r s p q
 
 pub dampmeadow-strip : (κs : Lfts 4) → OneAnswer (strip-reads.Post κs) (λ r x. strip.seen r (now (x .1 .1 .1 .0)) (now (x .1 .1 .1 .1 .0)))
 dampmeadow-strip κs = pinned (λ a. strip.shows (a .0) (now (a .1 .0)) (now (a .1 .1 .0)) (now (a .1 .1 .1 .0)) (now (a .1 .1 .1 .1 .0))) (λ a r x p. strip.strips p)

@@ -1,6 +1,6 @@
 // The exported calls, for C and Rust. The static library is built from it; no crate stands on it.
 ghost use mathlib.Core.Path.{_≡_};
-ghost use lib.Ieee.{binary32};
+ghost use lib.Ieee.{binary32, ofBits};
 ghost use Rattle.format.specs.Parts.{truncWord, fractWord};
 ghost use Rattle.format.specs.Sign.{turnedWord};
 ghost use Rattle.format.specs.Whole.{floorWord, ceilWord};
@@ -11,6 +11,7 @@ ghost use Rattle.guard.specs.Operations.{opAtan, opTrunc};
 ghost use Rattle.guard.specs.Refusals.{refusalOf};
 ghost use Rattle.frame.specs.Words.{packed, answerWords, wordBeside, wordsOf};
 ghost use Rattle.frame.specs.Frame.{returned, left};
+ghost use Rattle.recipe.specs.Answers.{AnswersWords};
 ghost use Rattle.strip.specs.Strip.{Strips};
 ghost use Rattle.grain.specs.Grain.{Leaves};
 use float::F32;
@@ -25,6 +26,16 @@ pub extern "C" fn dampmeadow_words(op: u32, a: u32, b: u32) -> u64
     ensures { λ r. ⌜ r ≡ wordsOf op a b ⌝ }
 {
     words::answer(op, a, b)
+}
+
+// What a recipe, a line given without its newline, answers at x: the refusal number in the high 32
+// bits, 13 for a line that is too long, 14 for one too deep, 15 for one that is not of the grammar,
+// or a kernel's; and the word in the low 32, which may be a NaN's, 7fc00000.
+#[no_mangle]
+pub extern "C" fn dampmeadow_recipe(line: &[u8], x: u32) -> u64
+    ensures { λ r. ⌜ AnswersWords (now (line .entry)) (ofBits binary32 x) r ⌝ }
+{
+    words::of_answer(recipe::answer(line, F32(x)))
 }
 
 // Runs an operation over a strip: place by place what it answers to the words of the first list and

@@ -4,7 +4,7 @@ use native.Mathlib.Nat.{le-of-suc-le-suc}
 use native.Mathlib.Omega.{arith}
 use mathlib.Core.Path.{_≡_, refl, sym, ap, subst, _∙_}
 use mathlib.Core.Logic.{_⊎_, inl, inr}
-use mathlib.Core.Bool.{Bool, true, false, _&&_, _||_, false≢true}
+use mathlib.Core.Bool.{Bool, true, false, cond, _&&_, _||_, false≢true}
 use mathlib.Core.List.{List, [], _∷_, _++_, append-assoc}
 use borrow.Author.Tests.{leb-true, eqb-true, le-leb, lt-leb}
 use lib.Dec.{leb, eqb}
@@ -12,7 +12,7 @@ use lib.ListN.{length, take, drop, getD, set, length-append, length-drop}
 use lib.Seq.{take-suc, getD-drop, set-split, take-append-seam, drop-append-add, drop-drop}
 use lib.Pow.{pow-add, pow-mono}
 use native.Mathlib.Numerals.{add-one}
-use Rattle.frame.specs.Frame.{isDigit, digitOf, byteOf, allDigits, isFrame, numberAfter, hexBytes}
+use Rattle.frame.specs.Frame.{isDigit, digitOf, digitOr16, byteOf, allDigits, isFrame, numberAfter, hexBytes}
 
 both : (p q : Bool) → (p && q) ≡ true → (p ≡ true) × (q ≡ true)
 both true q e = (refl, e)
@@ -37,6 +37,24 @@ digit-lt b e = go (digit-range b e)
     go : ((0x30 ≤ b) × (b ≤ 0x39)) ⊎ ((0x61 ≤ b) × (b ≤ 0x66)) → digitOf b < 16
     go (inl h) = rw (le-leb b 0x39 (h .1)) (omega arith)
     go (inr h) = rw (lt-leb b 0x39 (omega arith)) (omega arith)
+
+-- a byte by its value or 16
+pub digit-if : (b d : ℕ) → d ≡ digitOr16 b → d ≤ 15 → isDigit b ≡ true
+digit-if b d e h = go (isDigit b) refl (rw e at h)
+  where
+    go : (t : Bool) → isDigit b ≡ t → cond t (digitOf b) 16 ≤ 15 → isDigit b ≡ true
+    go true q k = q
+    go false q k = absurd (let z : ⊥ = omega arith in z)
+
+pub value-if : (b d : ℕ) → d ≡ digitOr16 b → d ≤ 15 → d ≡ digitOf b
+value-if b d e h = e ∙ rw (digit-if b d e h)
+
+pub none-if : (b d : ℕ) → d ≡ digitOr16 b → 15 < d → isDigit b ≡ false
+none-if b d e h = go (isDigit b) refl (rw e at h)
+  where
+    go : (t : Bool) → isDigit b ≡ t → 15 < cond t (digitOf b) 16 → isDigit b ≡ false
+    go true q k = absurd (let l = digit-lt b q in let z : ⊥ = omega arith in z)
+    go false q k = q
 
 -- ---- a line of digits
 

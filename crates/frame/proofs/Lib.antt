@@ -1,4 +1,4 @@
 -- What belongs to no one function.
-mod Digits
+pub mod Digits
 pub mod Answers
 pub mod OneAnswer

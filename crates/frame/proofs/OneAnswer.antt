@@ -11,6 +11,7 @@ use Rattle.frame.proofs.words.answer.Reads as words-answer-reads
 use Rattle.frame.proofs.words.kernel_number.Reads as words-kernel-number-reads
 use Rattle.frame.proofs.words.refused.Reads as words-refused-reads
 use Rattle.frame.proofs.words.of_answer.Reads as words-of-answer-reads
+use Rattle.frame.proofs.digit.Reads as digit-reads
 use Rattle.frame.proofs.of_line.Reads as of-line-reads
 use Rattle.frame.proofs.answer.Reads as answer-reads
 
@@ -25,6 +26,9 @@ words-refused κs = pinned _ (λ a r x p. p)
 
 pub words-of-answer : (κs : Lfts 0) → OneAnswer (words-of-answer-reads.Post κs) (λ r x. r)
 words-of-answer κs = pinned _ (λ a r x p. p)
+
+pub digit : (κs : Lfts 0) → OneAnswer (digit-reads.Post κs) (λ r x. r)
+digit κs = pinned _ (λ a r x p. p)
 
 pub of-line : (κs : Lfts 1) → OneAnswer (of-line-reads.Post κs) (λ r x. r)
 of-line κs = pinned _ (λ a r x p. p)

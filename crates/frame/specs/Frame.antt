@@ -15,6 +15,10 @@ isDigit b = (leb 0x30 b && leb b 0x39) || (leb 0x61 b && leb b 0x66)
 abbrev pub digitOf : ℕ → ℕ
 digitOf b = cond (leb b 0x39) (b - 0x30) (b - 0x57)
 
+-- 16 for a byte that is no digit
+abbrev pub digitOr16 : ℕ → ℕ
+digitOr16 b = cond (isDigit b) (digitOf b) 16
+
 abbrev pub byteOf : ℕ → ℕ
 byteOf d = cond (leb d 9) (0x30 + d) (0x57 + d)
 

@@ -4,7 +4,7 @@ ghost use mathlib.Core.Path.{_≡_};
 ghost use mathlib.Core.Bool.{true};
 ghost use Prim.Native.Nat.{ℕ, _+_, _*_, _-_, _/_, _%_, _^_, _≤_, _<_};
 ghost use lib.ListN.{length, getD};
-ghost use Rattle.frame.specs.Frame.{isDigit, digitOf, byteOf, isFrame, numberAt, lineWords, returned, left};
+ghost use Rattle.frame.specs.Frame.{isDigit, digitOf, digitOr16, byteOf, isFrame, numberAt, lineWords, returned, left};
 
 pub mod words;
 
@@ -73,6 +73,16 @@ fn is_digit(b: u8) -> bool
     ensures { λ r. ⌜ r ≡ isDigit b ⌝ }
 {
     ((0x30 <= b) & (b <= 0x39)) | ((0x61 <= b) & (b <= 0x66))
+}
+
+// The value of a digit, and 16 for a byte that is none.
+pub fn digit(b: u8) -> u8
+    ensures { λ r. ⌜ r ≡ digitOr16 b ⌝ }
+{
+    if !is_digit(b) {
+        return 16;
+    }
+    digit_of(b)
 }
 
 // The value of a digit.
