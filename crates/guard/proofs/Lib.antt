@@ -3,6 +3,7 @@ mod Lists
 pub mod Each
 mod Gives
 pub mod First
+pub mod Numbers
 pub mod Open
 pub mod Order
 pub mod NoNan

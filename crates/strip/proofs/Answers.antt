@@ -6,18 +6,16 @@ use native.Mathlib.Omega.{arith}
 use mathlib.Core.Path.{_≡_, refl, sym, ap, subst, _∙_}
 use mathlib.Core.Logic.{_⊎_, inl, inr, ⊎-elim}
 use mathlib.Core.Bool.{Bool, true, false, cond, not, _&&_, _||_}
-use mathlib.Core.List.{List, [], _∷_}
 use borrow.Author.Tests.{le-leb, lt-leb, ne-eqb, leb-true, leb-false, ltb-true, ltb-false, eqb-true, eqb-false}
 use lib.Dec.{T, leb, ltb, eqb}
 use lib.ListN.{List·getD-eq-default}
 use lib.Ieee.{binary32}
-use lib.Ieee.Fits.{and-l, and-r}
 use Rattle.format.specs.Classes.{isZero}
 use Rattle.raw.specs.Raw.{Kernel, none, one, two, kernels, kernelOf, operandsOf, rawOf}
 use Rattle.guard.specs.Operations.{opSqrt}
-use Rattle.guard.specs.Gates.{gateOf}
-use Rattle.guard.specs.Refusals.{Refusal, refusals, holds, firstOf, refusalBehind, refusalOf}
+use Rattle.guard.specs.Refusals.{refusalOf}
 use Rattle.guard.specs.Guarded.{valueOf}
+use Rattle.guard.proofs.Numbers.{given-passes}
 use Rattle.guard.proofs.Laws.{one-word, second-word-is-ignored}
 use Rattle.frame.specs.Words.{packed, answerWords, kernelNumber, operationWords, shapeOf, framed}
 use Rattle.strip.specs.Strip.{operandsIn, used, placeWords, wordAt, refusalAt}
@@ -47,21 +45,8 @@ neither n = not (eqb n 6 || eqb n 7)
 told : (n : ℕ) → T (neither n) → (n ≡ 6 → ⊥) × (n ≡ 7 → ⊥)
 told n h = ((λ e. subst (λ (m : ℕ). T (neither m)) e h), (λ e. subst (λ (m : ℕ). T (neither m)) e h))
 
-abbrev clear : List Refusal → Bool
-clear [] = true
-clear (r ∷ rs) = neither (r .number) && clear rs
-
-first-of : (op a b : ℕ) (rs : List Refusal) → T (clear rs) → T (neither (firstOf rs op a b))
-first-of op a b [] h = tt
-first-of op a b (r ∷ rs) h = go (holds r op a b) (first-of op a b rs (and-r (neither (r .number)) (clear rs) h))
-  where
-    go : (t : Bool) → T (neither (firstOf rs op a b)) → T (neither (cond t (r .number) (firstOf rs op a b)))
-    go true k = and-l (neither (r .number)) (clear rs) h
-    go false k = k
-
 listed : (op a b : ℕ) → T (neither (refusalOf op a b))
-unfolding refusalBehind
-listed op a b = first-of op a b (refusals (gateOf op)) tt
+listed op a b = given-passes neither tt op a b tt
 
 -- ---- what stands at a place
 
