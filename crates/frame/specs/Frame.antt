@@ -52,13 +52,23 @@ hexBytes zero n = []
 hexBytes (suc k) n = byteOf (n / 16 ^ k % 16) ∷ hexBytes k n
 
 -- a refusal of two digits stands above a word of eight; then the newline
+abbrev pub wordsBytes : ℕ → List ℕ
+wordsBytes words = hexBytes 10 words ++ (10 ∷ [])
+
 unfoldable pub answerBytes : List ℕ → List ℕ
-answerBytes line = hexBytes 10 (lineWords line) ++ (10 ∷ [])
+answerBytes line = wordsBytes (lineWords line)
 
--- ---- the answering call, by the line and the space that is lent: the number that it returns, and what the space is left with
+-- ---- an answer written into a space that is lent: the number that is returned, and what the space is left with
 
+abbrev pub returnedFor : ℕ → List ℕ → ℕ
+returnedFor words space = cond (ltb (length space) 11) 8 (words / 2 ^ 32)
+
+abbrev pub leftWith : List ℕ → List ℕ → List ℕ
+leftWith answer space = cond (ltb (length space) 11) space (answer ++ drop 11 space)
+
+-- and by the line
 abbrev pub returned : List ℕ → List ℕ → ℕ
-returned line space = cond (ltb (length space) 11) 8 (lineWords line / 2 ^ 32)
+returned line space = returnedFor (lineWords line) space
 
 abbrev pub left : List ℕ → List ℕ → List ℕ
-left line space = cond (ltb (length space) 11) space (answerBytes line ++ drop 11 space)
+left line space = leftWith (answerBytes line) space

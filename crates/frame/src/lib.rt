@@ -4,7 +4,7 @@ ghost use mathlib.Core.Path.{_≡_};
 ghost use mathlib.Core.Bool.{true};
 ghost use Prim.Native.Nat.{ℕ, _+_, _*_, _-_, _/_, _%_, _^_, _≤_, _<_};
 ghost use lib.ListN.{length, getD};
-ghost use Rattle.frame.specs.Frame.{isDigit, digitOf, digitOr16, byteOf, isFrame, numberAt, lineWords, returned, left};
+ghost use Rattle.frame.specs.Frame.{isDigit, digitOf, digitOr16, byteOf, isFrame, numberAt, lineWords, wordsBytes, returnedFor, leftWith, returned, left};
 
 pub mod words;
 
@@ -15,10 +15,17 @@ pub fn answer(line: &[u8], space: &mut [u8]) -> u32
     ensures number { λ r. ⌜ r ≡ returned (now (line .entry)) (now (space .entry)) ⌝ }
     ensures bytes { λ r. ⌜ now (space .exit) ≡ left (now (line .entry)) (now (space .entry)) ⌝ }
 {
+    write(of_line(line), space)
+}
+
+// Writes an answer that is given as words at the front of the space, in the same way.
+pub fn write(words: u64, space: &mut [u8]) -> u32
+    ensures number { λ r. ⌜ r ≡ returnedFor words (now (space .entry)) ⌝ }
+    ensures bytes { λ r. ⌜ now (space .exit) ≡ leftWith (wordsBytes words) (now (space .entry)) ⌝ }
+{
     if space.len() < 11 {
         return 8;
     }
-    let words = of_line(line);
     let mut i: usize = 0;
     while i < 10 {
         space[i] = byte_of(nibble(words, i));
