@@ -1,19 +1,19 @@
 -- What is held of a line is enough of it: the lines held when they end have the answers of the lines themselves. Assumes nothing.
-use Prim.Native.Nat.{ℕ, _+_, _≤_, _<_}
-use native.Mathlib.Numerals.{add-one}
+use Prim.Native.Nat.{ℕ, _+_, _<_}
 use native.Mathlib.Omega.{arith}
 use mathlib.Core.Path.{_≡_, refl, sym, ap, _∙_}
 use mathlib.Core.Bool.{Bool, true, false, cond}
 use mathlib.Core.List.{List, [], _∷_, _++_}
 use borrow.Author.Tests.{ltb-true, ltb-false}
 use lib.Dec.{eqb, ltb}
-use lib.ListN.{length, set, length-append, length-take, length-set}
-use lib.Seq.{take-all, take-append-le, take-suc-set, length-take-le}
+use lib.ListN.{length, set, length-take, length-set}
+use lib.Seq.{take-all, length-take-le}
 use Rattle.frame.specs.Frame.{answerBytes}
 use Rattle.lines.specs.declared.Lines.{Lines}
 use Rattle.lines.specs.Lines.{newline, answers, completed, pending}
 use Rattle.lines.specs.Held.{lineOf, fresh, Holds, pushed, ended, after, answersFrom}
 use Rattle.frame.proofs.Answers.{too-long}
+use Rattle.lines.proofs.Kept.{with-room, with-none}
 
 pub fresh-holds : Holds [] fresh
 fresh-holds = record { long = refl; line = refl }
@@ -24,34 +24,20 @@ own-line s h = record { long = h; line = sym (take-all 19 (lineOf s) (omega (ari
 ended-holds : {p : List ℕ} {s : Lines} → Holds p s → Holds [] (ended s)
 ended-holds h = record { long = h .long; line = refl }
 
--- fewer than 19 bytes are held only of a line that has no more
-short : (p : List ℕ) (s : Lines) → Holds p s → s .count < 19 → lineOf s ≡ p × length p ≡ s .count
-short p s h k =
-    let a : length (lineOf s) ≡ s .count = length-take-le (s .count) (s .held) (omega (arith, h .long)) in
-    let e = ap length (h .line) ∙ length-take 19 p in
-    let q : length p ≤ 19 = omega arith in
-    let l : lineOf s ≡ p = h .line ∙ take-all 19 p q in
-    (l, sym (ap length l) ∙ a)
-
 pushed-holds : (p : List ℕ) (s : Lines) (b : ℕ) → Holds p s → Holds (p ++ b ∷ []) (pushed s b)
 pushed-holds p s b h = go (ltb (s .count) 19) refl
   where
     go : (t : Bool) → ltb (s .count) 19 ≡ t
         → Holds (p ++ b ∷ []) (cond t (record { held = set (s .held) (s .count) b; count = s .count + 1 }) s)
     go true e =
-        let k = ltb-true (s .count) 19 e in
-        let q = short p s h k in
         record {
           long = length-set (s .held) (s .count) b ∙ h .long;
-          line = rw (add-one, take-suc-set (s .held) (s .count) b (omega (arith, h .long)), q .0) (sym (take-all 19 (p ++ b ∷ []) (omega (arith, length-append p (b ∷ []), q .1))));
+          line = with-room 19 (s .held) p (s .count) b (h .long) (h .line) (ltb-true (s .count) 19 e);
         }
     go false e =
-        let k = ltb-false (s .count) 19 e in
-        let a : lineOf s ≡ s .held = take-all (s .count) (s .held) (omega (arith, h .long)) in
-        let n : 19 ≤ length p = omega (arith, sym (h .long) ∙ sym (ap length a) ∙ ap length (h .line) ∙ length-take 19 p) in
         record {
           long = h .long;
-          line = h .line ∙ sym (take-append-le 19 p (b ∷ []) n);
+          line = with-none 19 (s .held) p (s .count) b (h .long) (h .line) (ltb-false (s .count) 19 e);
         }
 
 -- what is held after some bytes is what the line then begun begins with

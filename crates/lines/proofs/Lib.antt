@@ -2,6 +2,7 @@
 pub mod Cutting
 pub mod Meaning
 pub mod Front
+pub mod Kept
 pub mod Holding
 pub mod Feeding
 pub mod Runs

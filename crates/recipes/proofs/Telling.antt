@@ -1,0 +1,12 @@
+-- Eleven bytes in a space of eleven are all of it. Assumes nothing.
+use Prim.Native.Nat.{ℕ}
+use native.Mathlib.Omega.{arith}
+use native.Mathlib.Nat.{le-of-eq}
+use mathlib.Core.Path.{_≡_, refl, sym, ap, _∙_}
+use mathlib.Core.List.{List, [], _++_, append-nil}
+use borrow.Author.Tests.{le-ltb}
+use lib.ListN.{length, drop, drop-of-length-le}
+use Rattle.frame.specs.Frame.{leftWith}
+
+pub all-of-it : (answer space : List ℕ) → length space ≡ 11 → leftWith answer space ≡ answer
+all-of-it answer space e = rw (le-ltb (length space) 11 (omega arith), drop-of-length-le space {i = 11} (omega arith)) (append-nil answer)

@@ -1,0 +1,22 @@
+-- `recipes::tell_line` meets its contract: what it hands on is the line's answer. Assumes nothing.
+use borrow.Author.Needs.{needs}
+use mathlib.Core.Path.{refl, _∙_}
+use lib.ListN.{replicate}
+use Rattle.frame.specs.Frame.{wordsBytes}
+use Rattle.recipes.proofs.Telling.{all-of-it}
+use Rattle.recipes.proofs.tell_line.Statement.{statement}
+use Rattle.recipes.proofs.tell_line.Tie as tie
+
+pub tell-line-spec : {M : Type 1} → statement M
+tell-line-spec =
+    let met = tie.spec
+    (λ c κs. search needs)
+    (λ c. search needs)
+    (λ c κs. search needs)
+    (λ c. search needs)
+    (λ c κs.
+    let w = c .before .before in
+    let e = w .before .before in
+    record { words = e .answer .result; answers = e .answer .ensures; bytes = w .write .ensures .1 ∙ all-of-it (wordsBytes (e .answer .result)) (replicate 11 0) refl })
+    (λ c. search needs) in
+    tie.close met
