@@ -9,8 +9,10 @@ use lib.Seq.{take-suc, take-all}
 use Rattle.lines.specs.Lines.{newline, pending}
 use Rattle.lines.proofs.Cutting.{pending-cut}
 use Rattle.lines.proofs.Kept.{with-room, with-none}
+use Rattle.recipe.specs.Entry.{AnswersEntry}
+use Rattle.recipe.proofs.Entries.{first-bytes}
 use Rattle.recipes.specs.declared.Begun.{Begun}
-use Rattle.recipes.specs.Held.{Holds}
+use Rattle.recipes.specs.Held.{Holds, Tells}
 
 -- of a line begun before, i of some bytes have been read
 abbrev pub Read : Begun → List ℕ → ℕ → List ℕ → ℕ → Type 0
@@ -41,3 +43,7 @@ module _ (s : Begun) (bytes : List ℕ) (i : ℕ) (held : List ℕ) (count : ℕ
 pub all-read : (s : Begun) (bytes : List ℕ) (i : ℕ) (held : List ℕ) (count : ℕ) → Read s bytes i held count → length bytes ≤ i
     → (p : List ℕ) → Holds p s → Holds (pending p bytes) (record { held = held; count = count })
 all-read s bytes i held count r l p k = subst (λ (c : List ℕ). Holds (pending p c) (record { held = held; count = count })) (take-all i bytes l) (r p k)
+
+-- and that is enough of a line: what is told of what is held answers the line
+pub enough : (p answer : List ℕ) (s : Begun) → Holds p s → Tells (take (s .count) (s .held)) answer → Tells p answer
+enough p answer s h t = record { words = t .words; answers = first-bytes p (t .words) (subst (λ (l : List ℕ). AnswersEntry l (t .words)) (h .line) (t .answers)); bytes = t .bytes }
