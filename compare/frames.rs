@@ -1,4 +1,4 @@
-//! A program that answers frames, held to the reader of `reader.rs` byte for byte.
+//! A program that answers lines, held to the answers byte for byte: for frames, to those of the reader of `reader.rs`.
 
 use crate::lines::{joined, Lines};
 use crate::reader::{Reader, ANSWER};
@@ -9,9 +9,12 @@ use std::os::fd::AsRawFd;
 use std::process::{ChildStdin, Command, ExitStatus, Stdio};
 use std::time::{Duration, Instant};
 
+/// How many bytes of a line are shown.
+const SHOWN: usize = 40;
+
 /// How an input reaches the program.
 #[derive(Clone, Copy)]
-enum Feed {
+pub enum Feed {
     /// As fast as it is taken.
     Whole,
     /// In pieces of these lengths at random, each once the one before has been read.
@@ -36,21 +39,20 @@ fn lines(reader: &Reader, seed: u64, count: usize) -> Vec<u8> {
     joined(&all)
 }
 
-/// Short lines: what is read at once has more of them than there is room for answers to.
-fn short() -> Vec<Vec<u8>> {
-    const GOOD: &str = "094080000000000000\n";
+/// Short lines, and this one: what is read at once has more of them than there is room for answers to.
+pub fn short(good: &str) -> Vec<Vec<u8>> {
+    let line = format!("{good}\n");
     let mut random = Random::new(7);
-    let mixed = (0..200_000).flat_map(|_| GOOD.as_bytes()[GOOD.len() - 1 - [0, 0, 0, 1, 2, 18][random.below(6)]..].to_vec()).collect();
-    vec!["\n".repeat(200_000).into_bytes(), format!("{}{GOOD}", "\n".repeat(5_957)).into_bytes(), format!("{}{GOOD}", "\n".repeat(5_958)).into_bytes(), mixed]
+    let mixed = (0..200_000).flat_map(|_| line.as_bytes()[good.len() - [0, 0, 0, 1, 2, good.len()][random.below(6)]..].to_vec()).collect();
+    vec!["\n".repeat(200_000).into_bytes(), format!("{}{line}", "\n".repeat(5_957)).into_bytes(), format!("{}{line}", "\n".repeat(5_958)).into_bytes(), mixed]
 }
 
-/// Whole inputs that differ in how they end.
-fn endings() -> Vec<Vec<u8>> {
-    const GOOD: &str = "094080000000000000";
-    let ends = ["", "\n", "\n\n", "\r", "\r\n", "\0", "\0\n", "0", &GOOD[..17], GOOD, "\n\n\n\n"];
-    let mut inputs: Vec<Vec<u8>> = ends.iter().flat_map(|end| [end.to_string(), format!("{GOOD}{end}"), format!("{GOOD}\n{end}")]).map(String::into_bytes).collect();
-    inputs.push(GOOD.repeat(200_000).into_bytes());
-    inputs.push(format!("{}\n{GOOD}", "0".repeat(5_000_000)).into_bytes());
+/// Whole inputs of this line that differ in how they end.
+pub fn endings(good: &str) -> Vec<Vec<u8>> {
+    let ends = ["", "\n", "\n\n", "\r", "\r\n", "\0", "\0\n", "0", &good[..good.len() - 1], good, "\n\n\n\n"];
+    let mut inputs: Vec<Vec<u8>> = ends.iter().flat_map(|end| [end.to_string(), format!("{good}{end}"), format!("{good}\n{end}")]).map(String::into_bytes).collect();
+    inputs.push(good.repeat(200_000).into_bytes());
+    inputs.push(format!("{}\n{good}", "0".repeat(5_000_000)).into_bytes());
     inputs
 }
 
@@ -103,16 +105,16 @@ fn run(program: &str, input: &[u8], how: Feed) -> io::Result<(Vec<u8>, ExitStatu
     Ok((answers, child.wait()?))
 }
 
-/// Bytes for a reader's eyes, up to forty of them.
-fn shown(bytes: &[u8]) -> String {
-    format!("\"{}\"{}", bytes[..bytes.len().min(40)].escape_ascii(), if bytes.len() > 40 { "..." } else { "" })
+/// Bytes for a reader's eyes, up to so many of them.
+pub fn shown(bytes: &[u8], most: usize) -> String {
+    format!("\"{}\"{}", bytes[..bytes.len().min(most)].escape_ascii(), if bytes.len() > most { "..." } else { "" })
 }
 
 /// The line that begins at a place in the answers, or what there is of it.
 fn line_at(answers: &[u8], from: usize) -> String {
     match answers.get(from..) {
         None | Some([]) => "nothing".to_string(),
-        Some(rest) => shown(rest.split(|byte| *byte == b'\n').next().unwrap_or(rest)),
+        Some(rest) => shown(rest.split(|byte| *byte == b'\n').next().unwrap_or(rest), SHOWN),
     }
 }
 
@@ -124,36 +126,45 @@ pub fn first_difference(input: &[u8], expected: &[u8], answers: &[u8]) -> Option
     let same = expected.iter().zip(answers).take_while(|(a, b)| a == b).count();
     let number = same / ANSWER;
     let line = input.split(|byte| *byte == b'\n').nth(number).filter(|_| number * ANSWER < expected.len());
-    let line = line.map_or("past the last".to_string(), shown);
+    let line = line.map_or("past the last".to_string(), |line| shown(line, SHOWN));
     let (should, is) = (line_at(expected, number * ANSWER), line_at(answers, number * ANSWER));
     Some(format!("line {}, {line}, should give {should} and gives {is}", number + 1))
 }
 
 /// Holds the program to the reader and says so, a line to each way of feeding it; says whether they agree.
 pub fn compare(reader: &Reader, program: &str) -> io::Result<bool> {
+    const GOOD: &str = "094080000000000000";
     let sets = [
         ("as fast as it reads", vec![lines(reader, 1, 1_000_000)], Feed::Whole),
-        ("inputs of a few lines", endings(), Feed::Whole),
-        ("short lines", short(), Feed::Whole),
+        ("inputs of a few lines", endings(GOOD), Feed::Whole),
+        ("short lines", short(GOOD), Feed::Whole),
         ("one byte at a time", vec![lines(reader, 2, 1_500)], Feed::Pieces(&[1])),
         ("in odd pieces", vec![lines(reader, 3, 60_000)], Feed::Pieces(&[1, 2, 3, 7, 17, 18, 19, 20, 37, 255, 1_021, 4_095, 4_096, 4_097])),
     ];
+    hold("frames", program, &sets, |input| reader.answers_to(input))
+}
+
+/// Some inputs with a label, and how they are fed.
+pub type Set = (&'static str, Vec<Vec<u8>>, Feed);
+
+/// Holds the program to the answers to these inputs and says so, a line to each set; says whether they agree.
+pub fn hold(what: &str, program: &str, sets: &[Set], answers_to: impl Fn(&[u8]) -> Vec<u8>) -> io::Result<bool> {
     let (mut tried, mut agree) = (0, true);
     for (label, inputs, how) in sets {
         let (mut count, mut first) = (0, None);
-        for input in &inputs {
-            let expected = reader.answers_to(input);
-            let (answers, status) = run(program, input, how)?;
+        for input in inputs {
+            let expected = answers_to(input);
+            let (answers, status) = run(program, input, *how)?;
             count += expected.len() / ANSWER;
             let ended = || (!status.success()).then(|| status.to_string());
             let differs = first_difference(input, &expected, &answers).or_else(ended);
-            let which = if inputs.len() > 1 { format!("of {}, ", shown(input)) } else { String::new() };
+            let which = if inputs.len() > 1 { format!("of {}, ", shown(input, SHOWN)) } else { String::new() };
             first = first.or(differs.map(|what| which + &what));
         }
         tried += count;
         agree &= first.is_none();
-        println!("frames, {label}: {count} lines tried, {}", first.map_or("none differs".to_string(), |first| format!("some differ; the first: {first}")));
+        println!("{what}, {label}: {count} lines tried, {}", first.map_or("none differs".to_string(), |first| format!("some differ; the first: {first}")));
     }
-    println!("frames in all: {tried} lines tried, {}", if agree { "none differs" } else { "some differ" });
+    println!("{what} in all: {tried} lines tried, {}", if agree { "none differs" } else { "some differ" });
     Ok(agree)
 }

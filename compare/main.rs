@@ -1,5 +1,5 @@
 //! Runs micromath's kernels beside ours, word for word, and says how many words were tried and how many differ. Or answers
-//! frames by them, and holds a program that does so to those answers.
+//! frames by them, and holds a program that does so, for frames or for recipe lines, to those answers.
 
 mod edges;
 mod frames;
@@ -10,6 +10,10 @@ mod kernels;
 mod lines;
 mod marks;
 mod reader;
+mod recipe;
+mod recipe_lines;
+mod recipe_list;
+mod recipes;
 mod refusals;
 mod remainder;
 mod speed;
@@ -26,16 +30,20 @@ use std::path::Path;
 use std::process::exit;
 use sweep::Count;
 
-/// What is to be done with frames.
-enum Frames {
-    /// Answer standard input.
+/// What is to be done with lines.
+enum Lines {
+    /// Answer the frames of standard input.
     Read,
-    /// Write the stored list to a folder.
+    /// Write the stored list of frames to a folder.
     Vectors(String),
     /// Hold a program to the reader.
-    Compare(String),
+    Frames(String),
     /// Time a program.
-    Speed(String),
+    FramesSpeed(String),
+    /// Hold a program to the judge of recipes.
+    Recipes(String),
+    /// Write the recorded list of recipes to a folder.
+    RecipeList(String),
 }
 
 struct Wanted {
@@ -43,39 +51,43 @@ struct Wanted {
     speed: bool,
     /// Operation numbers, and names of what has none; empty for all.
     only: Vec<String>,
-    frames: Option<Frames>,
+    lines: Option<Lines>,
 }
 
 fn wanted() -> Result<Wanted, String> {
-    let mut wanted = Wanted { every: false, speed: false, only: Vec::new(), frames: None };
+    let mut wanted = Wanted { every: false, speed: false, only: Vec::new(), lines: None };
     let mut args = std::env::args().skip(1);
     while let Some(arg) = args.next() {
         match arg.as_str() {
             "--every" => wanted.every = true,
             "--speed" => wanted.speed = true,
             "--only" => wanted.only.extend(args.next().unwrap_or_default().split(',').map(String::from)),
-            "--read" => wanted.frames = Some(Frames::Read),
-            "--vectors" => wanted.frames = Some(Frames::Vectors(args.next().unwrap_or_default())),
-            "--frames" => wanted.frames = Some(Frames::Compare(args.next().unwrap_or_default())),
-            "--frames-speed" => wanted.frames = Some(Frames::Speed(args.next().unwrap_or_default())),
+            "--read" => wanted.lines = Some(Lines::Read),
+            "--vectors" => wanted.lines = Some(Lines::Vectors(args.next().unwrap_or_default())),
+            "--frames" => wanted.lines = Some(Lines::Frames(args.next().unwrap_or_default())),
+            "--frames-speed" => wanted.lines = Some(Lines::FramesSpeed(args.next().unwrap_or_default())),
+            "--recipes" => wanted.lines = Some(Lines::Recipes(args.next().unwrap_or_default())),
+            "--recipe-list" => wanted.lines = Some(Lines::RecipeList(args.next().unwrap_or_default())),
             _ => return Err(format!("no such option: {arg}")),
         }
     }
     Ok(wanted)
 }
 
-/// Does what is wanted with frames, and gives the exit status.
-fn frames(frames: &Frames) -> i32 {
+/// Does what is wanted with lines, and gives the exit status.
+fn lines(lines: &Lines) -> i32 {
     const BUFFER: usize = 1 << 16;
     let reader = Reader::new();
-    let (what, done) = match frames {
-        Frames::Read => {
+    let (what, done) = match lines {
+        Lines::Read => {
             let (input, output) = (BufReader::with_capacity(BUFFER, stdin()), BufWriter::with_capacity(BUFFER, stdout()));
             ("frames", reader.answers(input, output).map(|()| true))
         }
-        Frames::Vectors(folder) => (folder.as_str(), vectors::write(&reader, Path::new(folder)).map(|()| true)),
-        Frames::Compare(program) => (program.as_str(), frames::compare(&reader, program)),
-        Frames::Speed(program) => (program.as_str(), frames_speed::speed(&reader, program)),
+        Lines::Vectors(folder) => (folder.as_str(), vectors::write(&reader, Path::new(folder)).map(|()| true)),
+        Lines::Frames(program) => (program.as_str(), frames::compare(&reader, program)),
+        Lines::FramesSpeed(program) => (program.as_str(), frames_speed::speed(&reader, program)),
+        Lines::Recipes(program) => (program.as_str(), recipes::compare(program)),
+        Lines::RecipeList(folder) => (folder.as_str(), recipes::write(Path::new(folder)).map(|()| true)),
     };
     match done {
         Ok(agree) => !agree as i32,
@@ -91,17 +103,18 @@ fn main() {
         eprintln!("compare: {why}");
         exit(2)
     });
-    if let Some(of) = &wanted.frames {
-        exit(frames(of));
+    if let Some(of) = &wanted.lines {
+        exit(lines(of));
     }
     let all = if wanted.speed { kernels::beside_the_crate() } else { kernels::all() };
-    if let Some(key) = wanted.only.iter().find(|key| *key != grain::KEY && !all.iter().any(|k| k.key() == **key)) {
+    let keys = [grain::KEY, recipes::KEY];
+    if let Some(key) = wanted.only.iter().find(|key| !keys.contains(&key.as_str()) && !all.iter().any(|k| k.key() == **key)) {
         eprintln!("compare: nothing here has the number or name {key:?}");
         exit(2);
     }
     let wants = |kernel: &Kernel| wanted.only.is_empty() || wanted.only.contains(&kernel.key());
     let chosen: Vec<&Kernel> = all.iter().filter(|k| wants(k)).collect();
-    let wants_grain = wanted.only.is_empty() || wanted.only.iter().any(|key| key == grain::KEY);
+    let [wants_grain, wants_recipes] = keys.map(|key| wanted.only.is_empty() || wanted.only.iter().any(|only| only == key));
 
     if wanted.speed {
         let raw = |kernel: &Kernel| all.iter().find(|k| kernel.is_guarded() && !k.is_guarded() && k.name == kernel.name);
@@ -117,11 +130,15 @@ fn main() {
         if wants_grain {
             println!("{}", grain::speed());
         }
+        if wants_recipes {
+            recipes::speed().iter().for_each(|line| println!("{line}"));
+        }
         return;
     }
     let mut total = Count::default();
     let mut report = |label: &str, count: Count| {
         println!("{}", sweep::line(label, &count));
+        sweep::others(&count).for_each(|line| println!("{line}"));
         total.add(&count);
     };
     for kernel in &chosen {
@@ -140,6 +157,9 @@ fn main() {
         for (label, count) in grain::grain(wanted.every) {
             report(label, count);
         }
+    }
+    if wants_recipes {
+        recipes::recipes(wanted.every, &mut report);
     }
     println!("{}", sweep::line("in all", &total));
     exit(if total.differ == 0 { 0 } else { 1 });

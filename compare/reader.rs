@@ -40,23 +40,32 @@ impl Reader {
         }
     }
 
-    /// Answers each line of the input, in order. A last line without its newline counts, and an empty input has no line.
-    pub fn answers(&self, mut input: impl BufRead, mut output: impl Write) -> io::Result<()> {
-        let mut line = Vec::new();
-        while input.read_until(b'\n', &mut line)? > 0 {
-            let frame = line.strip_suffix(b"\n").unwrap_or(&line);
-            output.write_all(&written(self.answer(frame)))?;
-            line.clear();
-        }
-        output.flush()
+    /// Answers each line of the input, in order.
+    pub fn answers(&self, input: impl BufRead, output: impl Write) -> io::Result<()> {
+        answers(|line| self.answer(line), input, output)
     }
 
     /// The answers to an input that is at hand as a whole.
     pub fn answers_to(&self, input: &[u8]) -> Vec<u8> {
-        let mut output = Vec::new();
-        self.answers(input, &mut output).expect("bytes at hand are read and written");
-        output
+        answers_to(|line| self.answer(line), input)
     }
+}
+
+/// Answers each line of the input, in order. A last line without its newline counts, and an empty input has no line.
+fn answers(answer: impl Fn(&[u8]) -> u64, mut input: impl BufRead, mut output: impl Write) -> io::Result<()> {
+    let mut line = Vec::new();
+    while input.read_until(b'\n', &mut line)? > 0 {
+        output.write_all(&written(answer(line.strip_suffix(b"\n").unwrap_or(&line))))?;
+        line.clear();
+    }
+    output.flush()
+}
+
+/// The answers to the lines of an input that is at hand as a whole.
+pub fn answers_to(answer: impl Fn(&[u8]) -> u64, input: &[u8]) -> Vec<u8> {
+    let mut output = Vec::new();
+    answers(answer, input, &mut output).expect("bytes at hand are read and written");
+    output
 }
 
 /// How many bytes an answer has.
@@ -79,7 +88,8 @@ fn read(line: &[u8]) -> Option<(u32, u32, u32)> {
     Some((number(&line[..2])?, number(&line[2..10])?, number(&line[10..])?))
 }
 
-fn number(digits: &[u8]) -> Option<u32> {
+/// The number that these lower-case hex digits are.
+pub fn number(digits: &[u8]) -> Option<u32> {
     digits.iter().try_fold(0, |n, digit| match digit {
         b'0'..=b'9' => Some(n << 4 | (digit - b'0') as u32),
         b'a'..=b'f' => Some(n << 4 | (digit - b'a' + 10) as u32),

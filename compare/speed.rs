@@ -8,7 +8,7 @@ use std::time::Instant;
 
 const WORDS: usize = 4_096;
 const TURNS: usize = 64;
-const RUNS: usize = 31;
+pub const RUNS: usize = 31;
 
 /// The words of a long strip, which is a run by itself, and the kernels that are timed over one.
 const LONG: usize = 1_000_000;
@@ -19,15 +19,15 @@ pub fn heading() -> String {
     format!("strips of {WORDS} random words of size 2^-15 to 2^17, for a guarded call answered ones, {TURNS} turns to a run, medians of {RUNS} runs of each side in turn; a strip of {LONG} is one turn")
 }
 
-/// What is timed: its name, whether it is the crate's, and a turn over all words.
-struct Side<'a> {
+/// What is timed: its name, whether it is the crate's or another beside which ours stands, and a turn over all words.
+pub struct Side<'a> {
     name: String,
     theirs: bool,
     turn: Box<dyn FnMut() + 'a>,
 }
 
 impl<'a> Side<'a> {
-    fn new(name: &str, theirs: bool, turn: impl FnMut() + 'a) -> Side<'a> {
+    pub fn new(name: &str, theirs: bool, turn: impl FnMut() + 'a) -> Side<'a> {
         Side { name: name.to_string(), theirs, turn: Box::new(turn) }
     }
 }
@@ -68,8 +68,8 @@ pub fn median(mut times: Vec<f64>) -> f64 {
 }
 
 /// The time of each side: the median of a turn's nanoseconds, divided so that the unit is this one, and with ours how many times
-/// that is of the crate's side before it.
-fn timed(mut sides: Vec<Side>, turns: usize, divided: f64, unit: &str) -> String {
+/// that is of the last side before it that is not ours.
+pub fn timed(mut sides: Vec<Side>, turns: usize, divided: f64, unit: &str) -> String {
     let mut times = vec![Vec::new(); sides.len()];
     for _ in 0..RUNS {
         for (side, times) in sides.iter_mut().zip(&mut times) {

@@ -3,6 +3,7 @@
 use crate::kernels::{places, Kernel, Takes, NAN};
 use crate::marks::Tally;
 use crate::words::{edges, Random};
+use std::fmt;
 use std::io::{IsTerminal, Write};
 use std::sync::atomic::{AtomicU64, Ordering};
 use std::sync::Mutex;
@@ -17,13 +18,22 @@ pub struct Trial {
     ours: String,
 }
 
+impl fmt::Display for Trial {
+    fn fmt(&self, out: &mut fmt::Formatter) -> fmt::Result {
+        write!(out, "{} should be {} and is {}", self.asked, self.expected, self.ours)
+    }
+}
+
+/// How many that differ are told of each count.
+const TOLD: usize = 10;
+
 #[derive(Default)]
 pub struct Count {
     pub tried: u64,
     pub skipped: u64,
     pub differ: u64,
-    /// The first that differs.
-    pub first: Option<Trial>,
+    /// The first that differ, up to `TOLD`.
+    wrong: Vec<Trial>,
     /// NaN of the crate's that it built from bits, and that are 7fc00000 in ours by rule.
     pub built: u64,
     /// The first of these: the call, its words, and the crate's word.
@@ -38,7 +48,7 @@ impl Count {
         Count { marks: kernel.is_marked().then(Tally::default), ..Count::default() }
     }
 
-    /// Counts a trial. What was asked is told only of the first that differs.
+    /// Counts a trial. What was asked is told only of the first that differ.
     #[inline(always)]
     pub fn judge(&mut self, expected: Option<u64>, ours: u64, asked: impl FnOnce() -> String) {
         self.tried += 1;
@@ -47,8 +57,8 @@ impl Count {
         }
         if expected != Some(ours) {
             self.differ += 1;
-            if self.first.is_none() {
-                self.first = Some(self.trial(asked(), expected, ours));
+            if self.wrong.len() < TOLD {
+                self.wrong.push(self.trial(asked(), expected, ours));
             }
         }
     }
@@ -63,8 +73,8 @@ impl Count {
     fn judge_marks(&mut self, label: &str) {
         if let Some(marks) = self.marks.filter(|marks| *marks != Tally::OF_ALL) {
             self.differ += 1;
-            let trial = || Trial { asked: format!("{label} of every word"), expected: Tally::OF_ALL.to_string(), ours: marks.to_string() };
-            self.first.get_or_insert_with(trial);
+            self.wrong.truncate(TOLD - 1);
+            self.wrong.push(Trial { asked: format!("{label} of every word"), expected: Tally::OF_ALL.to_string(), ours: marks.to_string() });
         }
     }
 
@@ -72,7 +82,7 @@ impl Count {
         self.tried += other.tried;
         self.skipped += other.skipped;
         self.differ += other.differ;
-        self.first = self.first.take().or_else(|| other.first.clone());
+        self.wrong.extend(other.wrong.iter().take(TOLD.saturating_sub(self.wrong.len())).cloned());
         self.built += other.built;
         self.first_built = self.first_built.take().or_else(|| other.first_built.clone());
         if let (Some(marks), Some(more)) = (&mut self.marks, &other.marks) {
@@ -92,10 +102,15 @@ pub fn line(label: &str, count: &Count) -> String {
     if let Some(marks) = &count.marks {
         line += &format!(", by their marks {marks}");
     }
-    if let Some(t) = &count.first {
-        line += &format!("; the first: {} should be {} and is {}", t.asked, t.expected, t.ours);
+    if let Some(first) = count.wrong.first() {
+        line += &format!("; the first: {first}");
     }
     line
+}
+
+/// The others that are told of those that differ, a line to each.
+pub fn others(count: &Count) -> impl Iterator<Item = String> + '_ {
+    count.wrong.iter().skip(1).map(|trial| format!("  another: {trial}"))
 }
 
 /// An answer for a reader: a word, or the refusal's number.
@@ -196,35 +211,39 @@ fn try_words(kernel: &Kernel, words: &[(u32, u32)], count: &mut Count) {
     }
 }
 
-/// Tries a kernel on all cores. The first difference is that of the lowest number.
-pub fn sweep(kernel: &Kernel, every: bool) -> Count {
-    const BLOCK: u64 = 1 << 20;
-    let plan = Plan::new(kernel, every);
-    let len = plan.len();
+/// Goes over the numbers below `len` on all cores, a block at a time, and gives what comes of each block, in order.
+pub fn blocks<T: Send>(label: &str, len: u64, block: u64, run: impl Fn(u64, u64) -> T + Sync) -> Vec<T> {
     let next = AtomicU64::new(0);
     let done = AtomicU64::new(0);
-    let found: Mutex<Vec<(u64, Count)>> = Mutex::new(Vec::new());
+    let found: Mutex<Vec<(u64, T)>> = Mutex::new(Vec::new());
     let cores = std::thread::available_parallelism().map_or(1, |n| n.get());
     std::thread::scope(|scope| {
         for _ in 0..cores {
             scope.spawn(|| loop {
-                let from = next.fetch_add(BLOCK, Ordering::Relaxed);
+                let from = next.fetch_add(block, Ordering::Relaxed);
                 if from >= len {
                     break;
                 }
-                let to = len.min(from + BLOCK);
+                let to = len.min(from + block);
                 // before the lock is taken, which the other cores would wait for
-                let count = plan.run(kernel, from, to);
-                found.lock().unwrap().push((from, count));
+                let what = run(from, to);
+                found.lock().unwrap().push((from, what));
                 done.fetch_add(to - from, Ordering::Relaxed);
             });
         }
-        scope.spawn(|| progress(&kernel.label(), &done, len));
+        scope.spawn(|| progress(label, &done, len));
     });
     let mut blocks = found.into_inner().unwrap();
     blocks.sort_unstable_by_key(|(from, _)| *from);
+    blocks.into_iter().map(|(_, what)| what).collect()
+}
+
+/// Tries a kernel on all cores. The first difference is that of the lowest number.
+pub fn sweep(kernel: &Kernel, every: bool) -> Count {
+    const BLOCK: u64 = 1 << 20;
+    let plan = Plan::new(kernel, every);
     let mut sum = Count::of(kernel);
-    blocks.iter().for_each(|(_, count)| sum.add(count));
+    blocks(&kernel.label(), plan.len(), BLOCK, |from, to| plan.run(kernel, from, to)).iter().for_each(|count| sum.add(count));
     if plan.every {
         sum.judge_marks(&kernel.label());
     }

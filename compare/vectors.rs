@@ -302,12 +302,16 @@ fn list(reader: &Reader) -> Vec<Vec<u8>> {
 
 /// Writes the list to `stdin` and its answers to `stdout` in a folder.
 pub fn write(reader: &Reader, folder: &Path) -> io::Result<()> {
-    let lines = list(reader);
-    let input = joined(&lines);
-    let answers = reader.answers_to(&input);
+    store(folder, "frames", &list(reader), |input| reader.answers_to(input))
+}
+
+/// Writes lines to `stdin` and the answers to them to `stdout` in a folder.
+pub fn store(folder: &Path, what: &str, lines: &[Vec<u8>], answers_to: impl Fn(&[u8]) -> Vec<u8>) -> io::Result<()> {
+    let input = joined(lines);
+    let answers = answers_to(&input);
     std::fs::create_dir_all(folder)?;
     std::fs::write(folder.join("stdin"), &input)?;
     std::fs::write(folder.join("stdout"), &answers)?;
-    println!("{}: {} frames, {} bytes in stdin, {} in stdout", folder.display(), lines.len(), input.len(), answers.len());
+    println!("{}: {} {what}, {} bytes in stdin, {} in stdout", folder.display(), lines.len(), input.len(), answers.len());
     Ok(())
 }

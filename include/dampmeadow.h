@@ -37,8 +37,9 @@ extern "C" {
 /* ---- The operations
  *
  * Each kernel has a number for its guarded form. The guarded form takes what is written beside it, finite numbers only, and
- * refuses the rest; it never answers with a NaN. "Above 0" and "not 0" leave out the numbers that are too small to be normal
- * too: those of a size under 2^-126. The example is a guarded call and its answer.
+ * refuses the rest; it never answers with a NaN. (A formula of kernels may come to one: see dampmeadow_recipe.) "Above 0" and
+ * "not 0" leave out the numbers that are too small to be normal too: those of a size under 2^-126. The example is a guarded
+ * call and its answer.
  *
  * From sqrt to tan they are estimates, as they are in micromath: quick rather than close. sqrt may be some 6 percent too large
  * and inv, in size, 12.5; hypot of 3 and 4 is 5.125 here, and sqrt of 2 is 1.5. inv of -x is that of x with the other sign. ln
@@ -106,9 +107,10 @@ enum dampmeadow_operation {
 /* ---- The refusals
  *
  * Where more than one of them holds, the first in the column "looked at" is given. Raw forms are never refused with 1 to 5
- * or with 9. 8 is given by dampmeadow_answer alone, 10 by dampmeadow_strip alone, and 11 and 12 by dampmeadow_grain_offer
- * alone. That gives 1 and 4 too, for the sample, and looks at them in the order 12, 1, 4, 11. Later versions have more of
- * them: take every number but 0 for a refusal.
+ * or with 9. 8 is given by dampmeadow_answer alone, 10 by dampmeadow_strip alone, 11 and 12 by dampmeadow_grain_offer alone,
+ * and 13 to 15 by dampmeadow_recipe alone. An offer gives 1 and 4 too, for the sample, and they are looked at in the order 12,
+ * 1, 4, 11. A recipe has those of its kernels too, 1, 2, 9, 3 and 4, where none of 13, 14 and 15 holds. Later versions have
+ * more of them: take every number but 0 for a refusal.
  */
 enum dampmeadow_refusal {                  /* looked at    given when                                                 */
     DAMPMEADOW_ANSWERED = 0,               /*              there is an answer                                         */
@@ -127,8 +129,11 @@ enum dampmeadow_refusal {                  /* looked at    given when           
                                            /*              sqrt, invsqrt, inv, recip, ln, powi, powf                  */
     DAMPMEADOW_LENGTHS = 10,               /* before 6     the lists of a strip have not all one length               */
     DAMPMEADOW_FULL = 11,                  /* after 4      the record of grain holds 65536 samples already            */
-    DAMPMEADOW_WORN_OUT = 12               /* before all   the record of grain has counted 4294967295 offers; nothing */
+    DAMPMEADOW_WORN_OUT = 12,              /* before all   the record of grain has counted 4294967295 offers; nothing */
                                            /*              changes                                                    */
+    DAMPMEADOW_TOO_LONG = 13,              /* before all   the recipe has more than 240 bytes                         */
+    DAMPMEADOW_TOO_DEEP = 14,              /* after 13     the recipe's parentheses go more than 16 deep              */
+    DAMPMEADOW_NOT_A_RECIPE = 15           /* after 14     the line is no recipe                                      */
 };
 
 /* ---- The marks
@@ -310,6 +315,32 @@ uint32_t dampmeadow_grain_offer(struct dampmeadow_grain *grain, uint32_t sample)
  */
 uint32_t dampmeadow_answer(const uint8_t *line, size_t length, uint8_t *space, size_t room);
 
+/* Works out a recipe, a formula on a line, at a number x. It has no operation number.
+ *
+ * In:   line and length, the line without its newline. Any line may be given, an empty one too, but the pointer is not NULL.
+ *       x, the word that the letter x stands for; any word.
+ *       A recipe is a sum: products joined by + or -. A product is factors joined by * or /. A factor is a number, written as
+ *       the eight lower-case hexadecimal digits of its word; or the letter x; or a sum in parentheses; or a kernel's name and,
+ *       right behind it, a sum in parentheses. The names are sqrt, invsqrt, inv, recip, exp, ln, atan, cos, sin and floor. What
+ *       is joined is worked out from the left: x-x-x is (x-x)-x, and x/x*x is (x/x)*x. There are no blanks and no signs: -1 is
+ *       written bf800000, and -x as 80000000-x.
+ * Back: the refusal in the high 32 bits and the value's word in the low 32; with a refusal the word is 0.
+ *       Each +, -, * and / is rounded once and refuses nothing: 1 over 0 is an infinity, and 0 over 0 a NaN. So the value may
+ *       be either, and so may x and a number in the line. A value that is a NaN has the word 0x7fc00000. The kernels are the
+ *       guarded ones, which refuse both with 1.
+ *       The refusals are 13, 14 and 15, the first that holds, and else that of the first kernel that refuses: from left to
+ *       right, and those in a kernel's parentheses before that kernel. 14 is told by the parentheses alone, those behind names
+ *       too, whatever else the line holds: some beginning of it has at least 17 more ( than ). 15 is given for an empty line,
+ *       and for a fault anywhere in it, behind a kernel that refuses too.
+ *
+ *   dampmeadow_recipe((const uint8_t *)"3f800000+sqrt(x)*x", 18, 0x40800000) == 0x41100000     1 + sqrt(4)*4 is 9
+ *   dampmeadow_recipe((const uint8_t *)"x-x-x", 5, 0x3f800000) == 0xbf800000                   (1 - 1) - 1 is -1
+ *   dampmeadow_recipe((const uint8_t *)"x/x", 3, 0x00000000) == 0x7fc00000                     0/0: a NaN, and no refusal
+ *   dampmeadow_recipe((const uint8_t *)"sqrt(x)", 7, 0xbf800000) == 0x300000000                sqrt of -1: refusal 3
+ *   dampmeadow_recipe((const uint8_t *)"sqrt(x)+", 8, 0xbf800000) == 0xf00000000               no recipe: refusal 15
+ */
+uint64_t dampmeadow_recipe(const uint8_t *line, size_t length, uint32_t x);
+
 /* ---- Helpers, in this header alone */
 
 /* The word of a float: dampmeadow_bits(4.0f) == 0x40800000 */
@@ -344,6 +375,12 @@ static inline uint32_t dampmeadow_mark_of(uint64_t answer)
 static inline uint32_t dampmeadow_word_of(uint64_t answer)
 {
     return (uint32_t)(answer & 0xffffffffu);
+}
+
+/* A recipe that is a string, at a float: dampmeadow_recipe_at("sqrt(x)", 4.0f) == 0x40000000 */
+static inline uint64_t dampmeadow_recipe_at(const char *line, float x)
+{
+    return dampmeadow_recipe((const uint8_t *)line, strlen(line), dampmeadow_bits(x));
 }
 
 #ifdef __cplusplus

@@ -37,19 +37,42 @@ void parts(const char *what, float x, uint32_t refusal, float whole, float rest)
     hold(what, {got, dampmeadow_float(r)}, {refusal, rest});
 }
 
-// An answer that has a mark beside it. The words are compared, since a zero's sign is part of it.
-void marked(const char *what, uint64_t packed, uint32_t mark, float number)
+// An answer with what stands above it, a mark or a refusal. The words are compared, since a zero's sign is part of it and a NaN
+// equals nothing.
+void exactly(const char *what, const char *above, uint32_t got, uint32_t word, uint32_t due, float number)
 {
     tried++;
-    const uint32_t got = dampmeadow_mark_of(packed), word = dampmeadow_word_of(packed);
-    if (got == mark && word == dampmeadow_bits(number)) return;
+    if (got == due && word == dampmeadow_bits(number)) return;
     wrong++;
-    std::printf("%s: mark %u, %.9g, and mark %u, %.9g is due\n", what, unsigned(got), double(dampmeadow_float(word)), unsigned(mark), double(number));
+    std::printf("%s: %s %u, %.9g, and %s %u, %.9g is due\n", what, above, unsigned(got), double(dampmeadow_float(word)), above, unsigned(due), double(number));
+}
+
+void marked(const char *what, uint64_t packed, uint32_t mark, float number)
+{
+    exactly(what, "mark", dampmeadow_mark_of(packed), dampmeadow_word_of(packed), mark, number);
 }
 
 void floors(const char *what, float x, uint32_t mark, float number) { marked(what, dampmeadow_floor_marked(dampmeadow_bits(x)), mark, number); }
 
 void ceils(const char *what, float x, uint32_t mark, float number) { marked(what, dampmeadow_ceil_marked(dampmeadow_bits(x)), mark, number); }
+
+// A recipe of any bytes. Where none of them is 0, the helper has to give the same.
+void recipe(const std::string &text, float x, uint32_t refusal, float number)
+{
+    const uint8_t *bytes = reinterpret_cast<const uint8_t *>(text.data());
+    std::vector<uint64_t> answers = {dampmeadow_recipe(bytes, text.size(), dampmeadow_bits(x))};
+    if (text.find('\0') == std::string::npos) answers.push_back(dampmeadow_recipe_at(text.c_str(), x));
+    for (const uint64_t packed : answers) exactly(text.c_str(), "refusal", dampmeadow_refusal_of(packed), dampmeadow_word_of(packed), refusal, number);
+}
+
+std::string repeated(const std::string &part, int times)
+{
+    std::string all;
+    while (times-- > 0) all += part;
+    return all;
+}
+
+std::string nested(const std::string &open, int deep) { return repeated(open, deep) + "x" + repeated(")", deep); }
 
 static_assert(sizeof(dampmeadow_grain) == 16 && alignof(dampmeadow_grain) == 4, "a record of grain has 16 bytes");
 static_assert(offsetof(dampmeadow_grain, count) == 0 && offsetof(dampmeadow_grain, refused) == 4, "the counts are first");
@@ -208,6 +231,47 @@ int main()
     offers("a record with more than all the offers", {1, last, 0.5f, 0.25f}, none, {1, last, 0.5f, 0.25f});
     line("094080000000000000", "0040000000");
     line("a frame is eighteen digits", "0700000000");
+    recipe("3f800000+sqrt(x)*x", 4.0f, 0, 9.0f);
+    recipe("sqrt(sqrt(41800000))*x", 3.0f, 0, 6.0f);
+    recipe("x-x-x", 1.0f, 0, -1.0f);
+    recipe("x/x*x", 2.0f, 0, 2.0f);
+    recipe("80000000-x", 0.0f, 0, -0.0f);
+    recipe("sqrt(x)", -0.0f, 0, -0.0f);
+    recipe("invsqrt(x)", 1.0f, 0, 0.966225028f);
+    recipe("inv(x)", -1.5f, 0, -0.75f);
+    recipe("recip(x)", 4.0f, 0, 0.250000119f);
+    recipe("recip(x)", smallest, DAMPMEADOW_SMALL, 0.0f);
+    recipe("exp(x)", 0.5f, 0, 1.6484375f);
+    recipe("ln(x)", 0.75f, 0, -0.405448198f);
+    recipe("atan(x)", 0.5f, 0, 0.466342807f);
+    recipe("cos(x)", 256.0f, 0, -0.0393502489f);
+    recipe("cos(x)", beyond, DAMPMEADOW_OUTSIDE, 0.0f);
+    recipe("sin(x)", -256.0f, 0, 0.999213219f);
+    recipe("floor(x)", -0.5f, 0, -1.0f);
+    recipe("x", nan, 0, nan);
+    recipe("ffc00001", 1.0f, 0, nan);
+    recipe("x", -infinite, 0, -infinite);
+    recipe("3f800000/x", 0.0f, 0, infinite);
+    recipe("x/x", 0.0f, 0, nan);
+    recipe("sqrt(3f800000/x)", 0.0f, DAMPMEADOW_NOT_FINITE, 0.0f);
+    recipe("ln(x)+sqrt(bf800000)", 0.0f, DAMPMEADOW_ZERO, 0.0f);
+    recipe("sqrt(bf800000)*ln(x)", 0.0f, DAMPMEADOW_NEGATIVE, 0.0f);
+    recipe("x" + repeated("+x", 119), 1.0f, 0, 120.0f); // 239 bytes
+    recipe("00000000" + repeated("+x", 116), 1.0f, 0, 116.0f);
+    recipe("x" + repeated("+x", 120), 1.0f, DAMPMEADOW_TOO_LONG, 0.0f);
+    recipe(repeated("(", 240), 1.0f, DAMPMEADOW_TOO_DEEP, 0.0f);
+    recipe(repeated("(", 241), 1.0f, DAMPMEADOW_TOO_LONG, 0.0f);
+    recipe(nested("(", 16), 2.5f, 0, 2.5f);
+    recipe(nested("(", 17), 2.5f, DAMPMEADOW_TOO_DEEP, 0.0f);
+    recipe(nested("floor(", 16), 2.5f, 0, 2.0f);
+    recipe(nested("floor(", 17), 2.5f, DAMPMEADOW_TOO_DEEP, 0.0f);
+    recipe(")" + repeated("(", 17), 1.0f, DAMPMEADOW_NOT_A_RECIPE, 0.0f);
+    recipe(")" + repeated("(", 18), 1.0f, DAMPMEADOW_TOO_DEEP, 0.0f);
+    for (const char *other : {"", "sqrt(bf800000)+", "3f80000", "3f8000000", "3F800000", "X", " x", "x\n", "x\r", "\x80", "\xf8", "+x", "-x", "(x", "()",
+                              "x(x)", "sqrtx", "sqrt (x)", "tan(x)", "abs(x)"})
+        recipe(other, 1.0f, DAMPMEADOW_NOT_A_RECIPE, 0.0f);
+    recipe(std::string(1, '\0'), 1.0f, DAMPMEADOW_NOT_A_RECIPE, 0.0f);
+    recipe(std::string("x\0", 2), 1.0f, DAMPMEADOW_NOT_A_RECIPE, 0.0f);
 
     std::printf("C++: %d tried, %d wrong\n", tried, wrong);
     return wrong != 0;

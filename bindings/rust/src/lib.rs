@@ -24,7 +24,8 @@
 //! docs/DIFFERENCES.md lists. [`raw_floor_marked`] and [`raw_ceil_marked`] give a [`Mark`] beside that, which says what their
 //! cast to an integer did to the number. [`call`] takes any operation by its number, [`strip`] the same over whole lists, and
 //! [`answer`] a frame, which is a line of text. A [`Grain`] is a record of samples, their running mean and spread, that is
-//! changed in place as each is offered. The library itself keeps nothing between calls, so they may be made from any thread.
+//! changed in place as each is offered. [`recipe`] works out a formula of kernels on a line of text, and what it gives may be a
+//! NaN. The library itself keeps nothing between calls, so they may be made from any thread.
 //!
 //! The build script finds the library, or proves and builds it, which takes a minute or two the first time; where it cannot, it
 //! says what is missing. The library asks for one function from outside, `fmodf`: it is Rust's own where Rust brings one, and
@@ -37,6 +38,7 @@ mod grain;
 mod kernels;
 mod mark;
 mod operation;
+mod recipe;
 mod refusal;
 mod strip;
 
@@ -44,6 +46,7 @@ pub use grain::Grain;
 pub use kernels::*;
 pub use mark::Mark;
 pub use operation::Operation;
+pub use recipe::{recipe, recipe_words};
 pub use refusal::Refusal;
 pub use strip::{bits, bits_mut, powers, strip};
 
@@ -74,6 +77,7 @@ mod exported {
         pub fn dampmeadow_floor_marked(a: u32) -> u64;
         pub fn dampmeadow_ceil_marked(a: u32) -> u64;
         pub fn dampmeadow_grain_offer(grain: *mut Grain, sample: u32) -> u32;
+        pub fn dampmeadow_recipe(line: *const u8, length: usize, x: u32) -> u64;
     }
 }
 

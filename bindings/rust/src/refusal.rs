@@ -3,8 +3,9 @@ use core::fmt::{Display, Formatter, Result};
 
 /// Why there is no answer, or why a sample was not taken. Where more than one holds, the first of these is given: 8; 7 for a
 /// line that is no frame; 10; 6; 7 for a second word that should be 0; then 1, 2, 9, 3, 4, 5. For an offer to a
-/// [`Grain`](crate::Grain) it is the first of 12, 1, 4, 11. Later versions of the library have more of them, so a `match` ends
-/// with `_`. One displays its number and what it says.
+/// [`Grain`](crate::Grain) it is the first of 12, 1, 4, 11. For a [`recipe`](crate::recipe) it is the first of 13, 14, 15, and
+/// else what the first kernel that refuses gives. Later versions of the library have more of them, so a `match` ends with `_`.
+/// One displays its number and what it says.
 ///
 /// ```
 /// use dampmeadow::{sqrt, Refusal};
@@ -41,6 +42,13 @@ pub enum Refusal {
     /// 12: the record of a [`Grain`](crate::Grain) has counted 4294967295 offers, and nothing changes. Only an offer is refused
     /// with it.
     WornOut,
+    /// 13: the [`recipe`](crate::recipe) has more than 240 bytes.
+    TooLong,
+    /// 14: the parentheses of the [`recipe`](crate::recipe) go more than 16 deep: some beginning of the line, whatever else it
+    /// holds, has at least 17 more ( than ).
+    TooDeep,
+    /// 15: the line is no [`recipe`](crate::recipe). An empty one is none.
+    NotARecipe,
     /// One that this version does not know, by its number. It is never one of those above.
     #[non_exhaustive]
     Unknown { number: u32 },
@@ -61,6 +69,9 @@ impl Refusal {
         Refusal::Lengths,
         Refusal::Full,
         Refusal::WornOut,
+        Refusal::TooLong,
+        Refusal::TooDeep,
+        Refusal::NotARecipe,
     ];
 
     /// Its number, which is never 0.
@@ -78,6 +89,9 @@ impl Refusal {
             Refusal::Lengths => 10,
             Refusal::Full => 11,
             Refusal::WornOut => 12,
+            Refusal::TooLong => 13,
+            Refusal::TooDeep => 14,
+            Refusal::NotARecipe => 15,
             Refusal::Unknown { number } => number,
         }
     }
@@ -114,6 +128,9 @@ impl Display for Refusal {
             Refusal::Lengths => "refusal 10: the lists have not all one length",
             Refusal::Full => "refusal 11: the record holds 65536 samples",
             Refusal::WornOut => "refusal 12: the record has counted 4294967295 offers",
+            Refusal::TooLong => "refusal 13: the recipe has more than 240 bytes",
+            Refusal::TooDeep => "refusal 14: the recipe's parentheses go more than 16 deep",
+            Refusal::NotARecipe => "refusal 15: the line is no recipe",
             Refusal::Unknown { number } => return write!(out, "refusal {number}: not known to this version of the binding"),
         })
     }
