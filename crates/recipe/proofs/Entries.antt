@@ -1,5 +1,5 @@
 -- An entry by what stands at its front, and by its first bytes. Assumes nothing.
-use Prim.Native.Nat.{ℕ, zero, suc, _+_, _-_, _≤_, _<_}
+use Prim.Native.Nat.{ℕ, zero, suc, _+_, _≤_, _<_}
 use native.Mathlib.Nat.{le-of-suc-le-suc}
 use native.Mathlib.Omega.{arith}
 use mathlib.Core.Path.{_≡_, refl, sym, ap, subst, _∙_}
@@ -10,6 +10,7 @@ use lib.Dec.{eqb}
 use lib.ListN.{length, take, drop, length-take, length-drop}
 use lib.Seq.{take-all}
 use lib.Ieee.{Float, binary32, ofBits}
+use Rattle.format.proofs.Order.{either}
 use Rattle.guard.specs.declared.Answer.{Answer}
 use Rattle.guard.specs.Guarded.{refusalGiven, wordOf}
 use Rattle.frame.specs.Frame.{isDigit, numberAt}
@@ -19,7 +20,7 @@ use Rattle.recipe.specs.Reader.{digits, begins}
 use Rattle.recipe.specs.Answers.{Answers, AnswersWords}
 use Rattle.recipe.specs.Entry.{isEntry, AnswersEntry}
 use Rattle.recipe.proofs.Fronts.{begun}
-use Rattle.recipe.proofs.Answers.{lt-or-ge, too-long}
+use Rattle.recipe.proofs.Answers.{too-long}
 
 module _ (line : List ℕ) (w : ℕ) where
   malformed : isEntry line ≡ false → w ≡ packed 7 0 → AnswersEntry line w
@@ -60,14 +61,14 @@ word-first (c ∷ w) (suc n) (suc m) [] h = refl
 word-first (c ∷ w) (suc n) (suc m) (b ∷ l) h = word-first (c ∷ w) n m l (omega arith)
 
 pub first-bytes : (p : List ℕ) (w : ℕ) → AnswersEntry (take 250 p) w → AnswersEntry p w
-first-bytes p w a = by (lt-or-ge 250 (length p))
+first-bytes p w a = by (either (length p) 250)
   where
     same : isEntry (take 250 p) ≡ isEntry p
     same = rw (digits-first 8 250 p (omega arith), word-first (bytes " ") 8 250 p (omega arith))
 
-    by : (250 < length p) ⊎ (length p ≤ 250) → AnswersEntry p w
-    by (inr h) = subst (λ (l : List ℕ). AnswersEntry l w) (take-all 250 p h) a
-    by (inl h) = record { malformed = λ e. a .malformed (same ∙ e); worked = λ e. long (a .worked (same ∙ e)) }
+    by : (length p ≤ 250) ⊎ (250 < length p) → AnswersEntry p w
+    by (inl h) = subst (λ (l : List ℕ). AnswersEntry l w) (take-all 250 p h) a
+    by (inr h) = record { malformed = λ e. a .malformed (same ∙ e); worked = λ e. long (a .worked (same ∙ e)) }
       where
         long : {x : Float} → AnswersWords (drop 9 (take 250 p)) x w → AnswersWords (drop 9 p) (ofBits binary32 (numberAt 0 8 p)) w
         long v =

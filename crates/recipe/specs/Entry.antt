@@ -3,7 +3,7 @@ use Prim.Native.Nat.{ℕ}
 use mathlib.Core.Path.{_≡_}
 use mathlib.Core.Bool.{Bool, true, false, _&&_}
 use mathlib.Core.List.{List}
-use lib.ListN.{take, drop}
+use lib.ListN.{drop}
 use lib.Ieee.{binary32, ofBits}
 use Rattle.frame.specs.Frame.{numberAt}
 use Rattle.frame.specs.Words.{packed}

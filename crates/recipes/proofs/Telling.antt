@@ -1,11 +1,10 @@
 -- Eleven bytes in a space of eleven are all of it. Assumes nothing.
 use Prim.Native.Nat.{ℕ}
 use native.Mathlib.Omega.{arith}
-use native.Mathlib.Nat.{le-of-eq}
-use mathlib.Core.Path.{_≡_, refl, sym, ap, _∙_}
-use mathlib.Core.List.{List, [], _++_, append-nil}
+use mathlib.Core.Path.{_≡_}
+use mathlib.Core.List.{List, append-nil}
 use borrow.Author.Tests.{le-ltb}
-use lib.ListN.{length, drop, drop-of-length-le}
+use lib.ListN.{length, drop-of-length-le}
 use Rattle.frame.specs.Frame.{leftWith}
 
 pub all-of-it : (answer space : List ℕ) → length space ≡ 11 → leftWith answer space ≡ answer

@@ -1,7 +1,6 @@
 -- `frame::answer` meets its contract: it writes the line's words. Assumes nothing.
 use borrow.Author.Needs.{needs}
-use mathlib.Core.Path.{_≡_, ap, _∙_}
-use denote.Ref.{now}
+use mathlib.Core.Path.{_∙_}
 use Rattle.frame.specs.Frame.{answerBytes}
 use Rattle.frame.proofs.answer.Statement.{statement}
 use Rattle.frame.proofs.answer.Tie as tie

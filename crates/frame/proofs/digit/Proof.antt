@@ -1,7 +1,7 @@
 -- `frame::digit` meets its contract. Assumes nothing.
 use borrow.Author.Needs.{needs}
 use borrow.Author.Tests.{not-true, not-false}
-use mathlib.Core.Path.{_≡_, sym, _∙_}
+use mathlib.Core.Path.{sym, _∙_}
 use Rattle.frame.proofs.digit.Statement.{statement}
 use Rattle.frame.proofs.digit.Tie as tie
 

@@ -1,8 +1,7 @@
 -- `recipes::answered` meets its contract: what is held is what the bytes read so far leave begun. Assumes nothing.
 use borrow.Author.Needs.{needs}
-use Prim.Native.Nat.{_-_, _≤_}
-use native.Mathlib.Omega.{arith}
-use mathlib.Core.Path.{_≡_, refl, sym, _∙_}
+use Prim.Native.Nat.{_-_}
+use mathlib.Core.Path.{sym, _∙_}
 use mathlib.Core.Bool.{false≢true}
 use lib.ListN.{length}
 use Rattle.recipes.proofs.Holding.{Read, ends-a-line, is-kept, is-passed-over, all-read}
