@@ -4,6 +4,7 @@ pub mod Each
 mod Gives
 pub mod First
 pub mod Numbers
+pub mod Words
 pub mod Open
 pub mod Order
 pub mod NoNan

@@ -5,21 +5,18 @@ use native.Mathlib.Nat.{zero-add, div-eq-of-lt, mod-eq-of-lt}
 use native.Mathlib.Omega.{arith}
 use mathlib.Core.Path.{_≡_, refl, sym, ap, subst, _∙_}
 use mathlib.Core.Logic.{_⊎_, inl, inr, ⊎-elim}
-use mathlib.Core.Bool.{Bool, true, false, cond, not, _&&_, _||_}
+use mathlib.Core.Bool.{Bool, true, false, cond, not, _||_}
 use borrow.Author.Tests.{le-leb, lt-leb, ne-eqb, leb-true, leb-false, ltb-true, ltb-false, eqb-true, eqb-false}
 use lib.Dec.{T, leb, ltb, eqb}
 use lib.ListN.{List·getD-eq-default}
-use lib.Ieee.{binary32}
-use Rattle.format.specs.Classes.{isZero}
 use Rattle.raw.specs.Raw.{Kernel, none, one, two, kernels, kernelOf, operandsOf, rawOf}
-use Rattle.guard.specs.Operations.{opSqrt}
 use Rattle.guard.specs.Refusals.{refusalOf}
 use Rattle.guard.specs.Guarded.{valueOf}
 use Rattle.guard.proofs.Numbers.{given-passes}
+use Rattle.guard.proofs.Words.{raw-word, value-word}
 use Rattle.guard.proofs.Laws.{one-word, second-word-is-ignored}
 use Rattle.frame.specs.Words.{packed, answerWords, kernelNumber, operationWords, shapeOf, framed}
 use Rattle.strip.specs.Strip.{operandsIn, used, placeWords, wordAt, refusalAt}
-use Rattle.strip.proofs.Words.{either, raw-word}
 
 -- ---- an operation, whatever stands in the place of a second word that it does not read
 
@@ -90,11 +87,8 @@ module _ (op a b : ℕ) (known : operandsIn op ≡ 0 → ⊥) where
     pub raw-place : 0x80 ≤ op → (refusalAt op a b ≡ 0) × (wordAt op a b ≡ rawOf (kernelOf (op - 0x80)) a b)
     raw-place h = alone (rawOf (kernelOf (op - 0x80)) a b) (raw-word (op - 0x80) a b a-lt b-lt) (rw (le-leb 0x80 op h))
 
-    value-word : valueOf op a b < 2 ^ 32
-    value-word = either (eqb op opSqrt && isZero binary32 a) a (rawOf (kernelOf op) a b) a-lt (raw-word op a b a-lt b-lt)
-
     pub answered-place : op < 0x80 → refusalOf op a b ≡ 0 → (refusalAt op a b ≡ 0) × (wordAt op a b ≡ valueOf op a b)
-    answered-place h e = alone (valueOf op a b) value-word (rw (lt-leb 0x80 op h, e) (zero-add (valueOf op a b)))
+    answered-place h e = alone (valueOf op a b) (value-word op a b a-lt b-lt) (rw (lt-leb 0x80 op h, e) (zero-add (valueOf op a b)))
 
     -- what a place shows, whatever the operation: no refusal, or one of the list with the zero word
     shown : (refusalAt op a b ≡ 0) ⊎ ((refusalAt op a b ≡ refusalOf op a b) × (wordAt op a b ≡ 0))

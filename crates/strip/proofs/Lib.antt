@@ -1,6 +1,5 @@
 -- What belongs to no one function.
 mod Places
-pub mod Words
 pub mod Answers
 pub mod Runs
 pub mod Cutting

@@ -1,4 +1,4 @@
--- Every raw kernel answers words with a word: a number below 2 ^ 32. Assumes nothing.
+-- Every raw kernel answers words with a word, a number below 2 ^ 32, and so does every guarded operation. Assumes nothing.
 use Prim.Native.Nat.{ℕ, zero, suc, _+_, _-_, _/_, _%_, _^_, _<_}
 use native.Mathlib.Nat.{mod-lt, sub-le, lt-of-le-of-lt, div-le-self}
 use native.Mathlib.Omega.{arith}
@@ -38,7 +38,10 @@ use Rattle.float.specs.Tan.{tanWord}
 use Rattle.float.specs.RemEuclid.{remainder, isNotBelow, remEuclidWord}
 use Rattle.float.specs.DivEuclid.{quotientWord, divEuclidWord}
 use Rattle.raw.specs.Raw.{Kernel, kernels, kernelOf, rawOf}
+use Rattle.format.specs.Classes.{isZero as isZeroWord}
+use Rattle.guard.specs.Operations.{opSqrt}
+use Rattle.guard.specs.Guarded.{valueOf}
 use Rattle.guard.proofs.Each.{Each, done, _⨟_, of-each}
 
 abbrev Word : ℕ → Type 0
 Word w = w < 2 ^ 32
@@ -265,3 +268,6 @@ each =
 pub raw-word : (n a b : ℕ) → a < 2 ^ 32 → b < 2 ^ 32 → rawOf (kernelOf n) a b < 2 ^ 32
 unfolding Answers
 raw-word n = of-each Answers (λ n a b h k. lit< tt) each n
+
+pub value-word : (op a b : ℕ) → a < 2 ^ 32 → b < 2 ^ 32 → valueOf op a b < 2 ^ 32
+value-word op a b h k = either (eqb op opSqrt && isZeroWord binary32 a) a (rawOf (kernelOf op) a b) h (raw-word op a b h k)
