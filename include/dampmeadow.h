@@ -319,11 +319,11 @@ uint32_t dampmeadow_answer(const uint8_t *line, size_t length, uint8_t *space, s
  *
  * In:   line and length, the line without its newline. Any line may be given, an empty one too, but the pointer is not NULL.
  *       x, the word that the letter x stands for; any word.
- *       A recipe is a sum: products joined by + or -. A product is factors joined by * or /. A factor is a number, written as
- *       the eight lower-case hexadecimal digits of its word; or the letter x; or a sum in parentheses; or a kernel's name and,
- *       right behind it, a sum in parentheses. The names are sqrt, invsqrt, inv, recip, exp, ln, atan, cos, sin and floor. What
- *       is joined is worked out from the left: x-x-x is (x-x)-x, and x/x*x is (x/x)*x. There are no blanks and no signs: -1 is
- *       written bf800000, and -x as 80000000-x.
+ *       A recipe has one term or more, with + or - between them; a term has one operand or more, with * or / between them. An
+ *       operand is a number, as the eight lower-case hexadecimal digits of its word; or x; or a recipe within parentheses, with
+ *       one of these names right before them or none: floor, sqrt, invsqrt, inv, recip, exp, ln, cos, sin, atan. Terms are put
+ *       together from the left, and so are a term's operands: x-x-x is (x-x)-x, and x/x*x is (x/x)*x. There is no blank, and an
+ *       operand has no + or - of its own before it: -1 is written bf800000, and -x as 80000000-x.
  * Back: the refusal in the high 32 bits and the value's word in the low 32; with a refusal the word is 0.
  *       Each +, -, * and / is rounded once and refuses nothing: 1 over 0 is an infinity, and 0 over 0 a NaN. So the value may
  *       be either, and so may x and a number in the line. A value that is a NaN has the word 0x7fc00000. The kernels are the

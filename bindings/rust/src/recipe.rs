@@ -4,10 +4,11 @@ use crate::{exported, unpacked, Refusal};
 
 /// Works out a recipe, a formula on a line, at x.
 ///
-/// A recipe is a sum: products joined by `+` or `-`. A product is factors joined by `*` or `/`. A factor is a number, written as
-/// the eight lower-case hexadecimal digits of its bits; or the letter `x`; or a sum in parentheses; or a kernel's name and,
-/// right behind it, a sum in parentheses. The names are sqrt, invsqrt, inv, recip, exp, ln, atan, cos, sin and floor. What is
-/// joined is worked out from the left. There are no blanks and no signs: -1 is written `bf800000`, and -x as `80000000-x`.
+/// A recipe has one term or more, with `+` or `-` between them; a term has one operand or more, with `*` or `/` between them.
+/// An operand is a number, as the eight lower-case hexadecimal digits of its bits; or `x`; or a recipe within parentheses, with
+/// one of these names right before them or none: floor, sqrt, invsqrt, inv, recip, exp, ln, cos, sin, atan. Terms are put
+/// together from the left, and so are a term's operands. There is no blank, and an operand has no `+` or `-` of its own before
+/// it: -1 is written `bf800000`, and -x as `80000000-x`.
 ///
 /// ```
 /// use dampmeadow::recipe;

@@ -16,7 +16,7 @@ use Rattle.guard.specs.Guarded.{refusalGiven, wordOf}
 use Rattle.frame.specs.Frame.{isDigit, numberAt}
 use Rattle.frame.specs.Words.{packed}
 use Rattle.recipe.specs.Text.{bytes}
-use Rattle.recipe.specs.Reader.{digits, begins}
+use Rattle.recipe.specs.Begins.{digits, begins}
 use Rattle.recipe.specs.Answers.{Answers, AnswersWords}
 use Rattle.recipe.specs.Entry.{isEntry, AnswersEntry}
 use Rattle.recipe.proofs.Fronts.{begun}

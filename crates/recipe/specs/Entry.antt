@@ -8,7 +8,7 @@ use lib.Ieee.{binary32, ofBits}
 use Rattle.frame.specs.Frame.{numberAt}
 use Rattle.frame.specs.Words.{packed}
 use Rattle.recipe.specs.Text.{bytes}
-use Rattle.recipe.specs.Reader.{digits, begins}
+use Rattle.recipe.specs.Begins.{digits, begins}
 use Rattle.recipe.specs.Answers.{AnswersWords}
 
 abbrev pub isEntry : List ℕ → Bool

@@ -6,6 +6,7 @@ use mathlib.Core.List.{List, [], _∷_}
 use borrow.Author.Tests.{eq-eqb, ne-eqb}
 use lib.ListN.{length, take, set, getD, length-set}
 use lib.Seq.{take-suc, take-all}
+use Rattle.frame.specs.Frame.{wordsBytes}
 use Rattle.lines.specs.Lines.{newline, pending}
 use Rattle.lines.proofs.Cutting.{pending-cut}
 use Rattle.lines.proofs.Kept.{with-room, with-none}
@@ -44,6 +45,6 @@ pub all-read : (s : Begun) (bytes : List ℕ) (i : ℕ) (held : List ℕ) (count
     → (p : List ℕ) → Holds p s → Holds (pending p bytes) (record { held = held; count = count })
 all-read s bytes i held count r l p k = subst (λ (c : List ℕ). Holds (pending p c) (record { held = held; count = count })) (take-all i bytes l) (r p k)
 
--- and that is enough of a line: what is told of what is held answers the line
-pub enough : (p answer : List ℕ) (s : Begun) → Holds p s → Tells (take (s .count) (s .held)) answer → Tells p answer
-enough p answer s h t = record { words = t .words; answers = first-bytes p (t .words) (subst (λ (l : List ℕ). AnswersEntry l (t .words)) (h .line) (t .answers)); bytes = t .bytes }
+-- and that is enough of a line: the answer to what is held is the line's
+pub enough : (p answer : List ℕ) (s : Begun) → Holds p s → Tells s answer → (w : ℕ) × AnswersEntry p w × (answer ≡ wordsBytes w)
+enough p answer s h t = (t .words, first-bytes p (t .words) (subst (λ (l : List ℕ). AnswersEntry l (t .words)) (h .line) (t .answers)), t .bytes)

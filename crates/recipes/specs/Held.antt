@@ -10,15 +10,19 @@ use Rattle.lines.specs.Lines.{pending}
 use Rattle.recipes.specs.declared.Begun.{Begun}
 use Rattle.recipes.specs.declared.State.{State}
 
+-- what is held of the line begun
+abbrev pub lineOf : Begun → List ℕ
+lineOf s = take (s .count) (s .held)
+
 -- s holds the line p: its first 250 bytes
 pub record Holds (p : List ℕ) (s : Begun) : Type 0 where
   pub long : length (s .held) ≡ 250
-  pub line : take (s .count) (s .held) ≡ take 250 p
+  pub line : lineOf s ≡ take 250 p
 
--- the eleven bytes of a line's answer
-pub record Tells (line answer : List ℕ) : Type 0 where
+-- the eleven bytes of the answer to what is held
+pub record Tells (s : Begun) (answer : List ℕ) : Type 0 where
   pub words : ℕ
-  pub answers : AnswersEntry line words
+  pub answers : AnswersEntry (lineOf s) words
   pub bytes : answer ≡ wordsBytes words
 
 -- what some bytes leave begun, where the run goes on: of any line that was begun, what is then begun of it or of a later one

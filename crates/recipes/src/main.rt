@@ -1,11 +1,15 @@
 // Answers recipes: each line of standard input is x as eight digits, a blank and a recipe, and its
 // answer, to standard output, is eleven bytes as a frame's, one a line in their order. It holds a
 // buffer of 65,536 bytes for what is read and the first 250 bytes of the line begun, whatever the
-// input is. No contract can say what a read brings or what a write does; all else is stated.
+// input is. No contract says what a read brings, what a write does, or that each line is answered as
+// it ends; docs/EXCEPTIONS.md has what is stated, and what shows the rest.
 ghost use mathlib.Core.Path.{_≡_};
-ghost use mathlib.Core.Bool.{false};
+ghost use mathlib.Core.Bool.{true, false};
 ghost use lib.ListN.{length, take};
+ghost use lib.IntN.{pos};
+ghost use lib.Signed.{ltZ};
 ghost use Rattle.io.specs.Counts.{clamped};
+ghost use Rattle.recipe.specs.Entry.{AnswersEntry};
 ghost use Rattle.recipes.specs.Held.{Leaves, Tells};
 use libc::STDIN_FILENO;
 use libc::STDOUT_FILENO;
@@ -59,18 +63,19 @@ fn turn(begun: Begun, chunk: &mut [u8]) -> State {
 // What a read answered, with the bytes that it brought at the front of the chunk: the answers to the
 // lines that end in them, and at the end of the input that to the last, where it is not empty.
 fn taken(begun: Begun, got: isize, chunk: &[u8]) -> State
-    ensures { λ r. ⌜ Leaves begun (take (clamped got (length (now (chunk .entry)))) (now (chunk .entry))) r ⌝ }
+    ensures bytes { λ r. ⌜ Leaves begun (take (clamped got (length (now (chunk .entry)))) (now (chunk .entry))) r ⌝ }
+    ensures some { λ r. ⌜ (r .«goes_on» ≡ true → ltZ (pos 0) got ≡ true) ⌝ }
 {
+    if got > 0 {
+        let n = io::count(got, chunk);
+        return answered(begun, &chunk[..n]);
+    }
     if got < 0 {
         os::fail(b"standard input");
         return stopped(begun);
     }
-    if got == 0 {
-        end(begun);
-        return stopped(begun);
-    }
-    let n = io::count(got, chunk);
-    answered(begun, &chunk[..n])
+    end(begun);
+    stopped(begun)
 }
 
 // Answers the lines that end in some bytes.
@@ -83,7 +88,7 @@ fn answered(begun: Begun, bytes: &[u8]) -> State
     while i < bytes.len() {
         let b = bytes[i];
         if b == b'\n' {
-            if !tell(&held, count) {
+            if !tell(Begun { held, count }) {
                 return stopped(begun);
             }
             count = 0;
@@ -113,31 +118,34 @@ fn stopped(begun: Begun) -> State
 
 // Answers the line that the input ends with.
 fn end(begun: Begun) {
-    let held = begun.held;
     if begun.count > 0 {
-        tell(&held, begun.count);
+        tell(begun);
     }
 }
 
-// Writes the answer to the line held, and says whether it was written.
-fn tell(held: &[u8; KEPT], count: usize) -> bool {
+// Answers the line held, and says whether its answer was written.
+fn tell(begun: Begun) -> bool {
+    let held = begun.held;
+    let words = words_of(&held, begun.count);
+    let mut answer = [0u8; 11];
+    frame::write(words, &mut answer);
+    write(begun, &answer)
+}
+
+// The answer to the line held, as words.
+fn words_of(held: &[u8; KEPT], count: usize) -> u64
+    ensures { λ r. ⌜ AnswersEntry (take count (now (held .entry))) r ⌝ }
+{
     let line: &[u8] = held;
     if count < KEPT {
-        return tell_line(&line[..count]);
+        return entry::answer(&line[..count]);
     }
-    tell_line(line)
+    entry::answer(line)
 }
 
-fn tell_line(line: &[u8]) -> bool {
-    let mut answer = [0u8; 11];
-    let words = entry::answer(line);
-    frame::write(words, &mut answer);
-    write(line, &answer)
-}
-
-// Writes the answer to a line.
-fn write(line: &[u8], answer: &[u8]) -> bool
-    requires { ⌜ Tells (now line) (now answer) ⌝ }
+// Writes the answer to the line held.
+fn write(begun: Begun, answer: &[u8]) -> bool
+    requires { ⌜ Tells begun (now answer) ⌝ }
 {
     let done = io::write_all(STDOUT_FILENO, answer);
     if !done {

@@ -27,8 +27,8 @@ answered-spec =
     (λ c. search needs)
     (λ c. search needs)
     (λ c.
-    let in-loop = c .before .before .before .before .before in
-    ends-a-line _ _ _ _ _ (in-loop .before .loop .inv) (in-loop .loop-test .taken) (c .before .before .before .if1 .taken))
+    let in-loop = c .before .before .before .before in
+    ends-a-line _ _ _ _ _ (in-loop .before .loop .inv) (in-loop .loop-test .taken) (c .before .before .if1 .taken))
     (λ c. search needs)
     (λ c. search needs)
     (λ c. search needs)
