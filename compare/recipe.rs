@@ -68,7 +68,7 @@ impl Tree {
     }
 }
 
-/// The greatest count of ( less ) over the line's beginnings.
+/// How many more ( than ) there are in the beginning of the line that has most.
 fn depth(line: &[u8]) -> i64 {
     let counts = line.iter().scan(0i64, |count, byte| {
         *count += (*byte == b'(') as i64 - (*byte == b')') as i64;
