@@ -1,5 +1,5 @@
 // The number type F32, which is its 32 bits, and the helpers of micromath's float.rs. The kernels
-// stand one to a file, under the crate's own names. `raw`, `guard`,
+// stand one to a file, under the crate's own names. `raw`, `guard`, `soft`,
 // `dampmeadow` and `probe` call it, and `sizes` measures its steps.
 ghost use mathlib.Core.Path.{_≡_};
 ghost use mathlib.Core.Bool.{not};

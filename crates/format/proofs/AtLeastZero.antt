@@ -96,7 +96,7 @@ nan-at-least = refl
 
 -- ---- as a word
 
-inf-lt : (f : Format) → infWord f < top f
+pub inf-lt : (f : Format) → infWord f < top f
 inf-lt binary32 = lit< tt
 inf-lt binary64 = lit< tt
 
@@ -141,7 +141,7 @@ or-is : (s b : Bool) → cond s b true ≡ (not s || b)
 or-is true b = refl
 or-is false b = refl
 
-inf-pos : (f : Format) → 0 < infWord f
+pub inf-pos : (f : Format) → 0 < infWord f
 inf-pos binary32 = lit< tt
 inf-pos binary64 = lit< tt
 

@@ -54,7 +54,7 @@ at-strict f x y t u h k l = go (either x y)
     go (inr g) = absurd (let z : ⊥ = omega (arith, mul-le-mul-right (hid f) g) in z)
     go (inl g) = elim (eq-or-lt-of-le g) [ inl e ↦ same x e l | inr m ↦ next-field f x y t u h m ]
 
-units-strict : (f : Format) (w v : ℕ) → magnitude f w < magnitude f v → units f w < units f v
+pub units-strict : (f : Format) (w v : ℕ) → magnitude f w < magnitude f v → units f w < units f v
 units-strict f w v h =
     at-strict f (exponent f w) (exponent f v) (fraction f w) (fraction f v) (fraction-lt f w) (fraction-lt f v) (rw (two-fields f w, two-fields f v) h)
 

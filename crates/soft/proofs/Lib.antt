@@ -1,0 +1,23 @@
+-- From the kit's rounding over whole numbers to the code's: nearest and written; then the four operations on words and on digits; then the engines.
+pub mod Nearest
+pub mod Rounded
+pub mod Written
+pub mod Past
+pub mod Classes
+pub mod Correct
+pub mod Scaled
+pub mod Shifted
+pub mod Digits
+pub mod Values
+pub mod Multiply
+pub mod Products
+pub mod Divide
+pub mod Long
+pub mod Quotients
+pub mod Sum
+pub mod Sums
+pub mod Less
+pub mod Engines
+pub mod Steps
+pub mod Examples
+pub mod OneAnswer
