@@ -15,6 +15,9 @@ use Rattle.recipe.proofs.OneAnswer.{one-words}
 use Rattle.strip.proofs.OneAnswer as strip
 use Rattle.grain.specs.declared.Grain.{Grain}
 use Rattle.grain.specs.Grain.{Leaves}
+use Rattle.soft.proofs.Divide.{divides-one}
+use Rattle.soft.proofs.Multiply.{multiplies-one}
+use Rattle.soft.proofs.Sum.{adds-one, subtracts-one}
 use Rattle.dampmeadow.proofs.dampmeadow_answer.Reads as answer-reads
 use Rattle.format.proofs.Pinned.{OneAnswer, pinned}
 use Rattle.dampmeadow.proofs.dampmeadow_words.Reads as words
@@ -25,6 +28,14 @@ use Rattle.dampmeadow.proofs.dampmeadow_recipe.Reads as recipe-reads
 use Rattle.dampmeadow.proofs.dampmeadow_strip.Reads as strip-reads
 use Rattle.dampmeadow.proofs.dampmeadow_floor_marked.Reads as floor-marked
 use Rattle.dampmeadow.proofs.dampmeadow_ceil_marked.Reads as ceil-marked
+use Rattle.dampmeadow.proofs.engine.dampmeadow_soft_add.Reads as soft-add
+use Rattle.dampmeadow.proofs.engine.dampmeadow_soft_sub.Reads as soft-sub
+use Rattle.dampmeadow.proofs.engine.dampmeadow_soft_mul.Reads as soft-mul
+use Rattle.dampmeadow.proofs.engine.dampmeadow_soft_div.Reads as soft-div
+use Rattle.dampmeadow.proofs.engine.dampmeadow_soft_cos.Reads as soft-cos
+use Rattle.dampmeadow.proofs.engine.dampmeadow_soft_sin.Reads as soft-sin
+use Rattle.dampmeadow.proofs.engine.dampmeadow_soft_atan_norm.Reads as soft-atan-norm
+use Rattle.dampmeadow.proofs.engine.dampmeadow_soft_atan.Reads as soft-atan
 
 pub dampmeadow-words : (κs : Lfts 0) → OneAnswer (words.Post κs) (λ r x. r)
 dampmeadow-words κs = pinned _ (λ a r x p. p)
@@ -72,3 +83,29 @@ dampmeadow-ceil-marked κs = pinned _ (λ a r x p. p)
 -- record that was lent.
 pub dampmeadow-grain-offer : (g : Grain) (w n m : ℕ) (h k : Grain) → Leaves g w n h → Leaves g w m k → (n ≡ m) × (h ≡ k)
 dampmeadow-grain-offer g w n m h k p q = (cc, cc)
+
+-- ---- the engine without floats
+
+pub engine-dampmeadow-soft-add : (κs : Lfts 0) → OneAnswer (soft-add.Post κs) (λ r x. r)
+engine-dampmeadow-soft-add κs = pinned _ (λ a r x p. adds-one binary32 _ _ r (p .1))
+
+pub engine-dampmeadow-soft-sub : (κs : Lfts 0) → OneAnswer (soft-sub.Post κs) (λ r x. r)
+engine-dampmeadow-soft-sub κs = pinned _ (λ a r x p. subtracts-one binary32 (a .0) (a .1 .0) r (p .1))
+
+pub engine-dampmeadow-soft-mul : (κs : Lfts 0) → OneAnswer (soft-mul.Post κs) (λ r x. r)
+engine-dampmeadow-soft-mul κs = pinned _ (λ a r x p. multiplies-one binary32 _ _ r (p .1))
+
+pub engine-dampmeadow-soft-div : (κs : Lfts 0) → OneAnswer (soft-div.Post κs) (λ r x. r)
+engine-dampmeadow-soft-div κs = pinned _ (λ a r x p. divides-one binary32 _ _ r (p .1))
+
+pub engine-dampmeadow-soft-cos : (κs : Lfts 0) → OneAnswer (soft-cos.Post κs) (λ r x. r)
+engine-dampmeadow-soft-cos κs = pinned _ (λ a r x p. p)
+
+pub engine-dampmeadow-soft-sin : (κs : Lfts 0) → OneAnswer (soft-sin.Post κs) (λ r x. r)
+engine-dampmeadow-soft-sin κs = pinned _ (λ a r x p. p)
+
+pub engine-dampmeadow-soft-atan-norm : (κs : Lfts 0) → OneAnswer (soft-atan-norm.Post κs) (λ r x. r)
+engine-dampmeadow-soft-atan-norm κs = pinned _ (λ a r x p. p)
+
+pub engine-dampmeadow-soft-atan : (κs : Lfts 0) → OneAnswer (soft-atan.Post κs) (λ r x. r)
+engine-dampmeadow-soft-atan κs = pinned _ (λ a r x p. p)

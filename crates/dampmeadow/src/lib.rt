@@ -1,4 +1,5 @@
-// The exported calls, for C and Rust. The static library is built from it; no crate stands on it.
+// The exported calls, for C and Rust. The static library is built from it; no crate stands on it. Those
+// of the engine without floats are in engine.rt.
 ghost use mathlib.Core.Path.{_≡_};
 ghost use lib.Ieee.{binary32, ofBits};
 ghost use Rattle.format.specs.Parts.{truncWord, fractWord};
@@ -18,6 +19,8 @@ use float::F32;
 use float::mark::Marked;
 use frame::words;
 use grain::Grain;
+
+pub mod engine;
 
 // What a frame with this operation and these two words answers: the refusal number in the high 32
 // bits and the word in the low 32.
