@@ -11,9 +11,9 @@
  * exact remainder: docs/GUIDE.md has what is asked of it, and bindings/c/fmodf.c is one.
  *
  * It keeps nothing between calls, so any number of threads may call it at once, each with memory of its own to be written: two
- * threads must not offer to one record of grain at once. It counts on the processor's usual float settings: rounding to
- * nearest, and numbers too small to be normal kept as they are. (A program linked with -ffast-math may start with other
- * settings, and then the answers are not ours: docs/GUIDE.md has what changes.)
+ * threads must not offer to one record of grain at once. It counts on the processor's usual float settings, in all calls but
+ * those of dampmeadow_soft.h: rounding to nearest, and numbers too small to be normal kept as they are. (A program linked with
+ * -ffast-math may start with other settings, and then the answers are not ours: docs/GUIDE.md has what changes.)
  *
  * A float goes in and comes out as its 32 bits, its "word": 4.0f is 0x40800000. dampmeadow_bits and dampmeadow_float, below,
  * go from one to the other. Words, and not floats, because a NaN's bits may change when it is handed on as a float. Only the
@@ -26,6 +26,7 @@
 #error "dampmeadow.h needs C99 or later: compile with -std=c99"
 #endif
 
+#include "dampmeadow_soft.h"
 #include <stddef.h>
 #include <stdint.h>
 #include <string.h>
@@ -340,6 +341,14 @@ uint32_t dampmeadow_answer(const uint8_t *line, size_t length, uint8_t *space, s
  *   dampmeadow_recipe((const uint8_t *)"sqrt(x)+", 8, 0xbf800000) == 0xf00000000               no recipe: refusal 15
  */
 uint64_t dampmeadow_recipe(const uint8_t *line, size_t length, uint32_t x);
+
+/* ---- The second engine
+ *
+ * dampmeadow_soft.h, which is included above, has dampmeadow_soft_add, _sub, _mul and _div, the arithmetic of floats worked out
+ * on words with whole numbers alone, and dampmeadow_soft_cos, _sin, _atan_norm and _atan, which are the raw kernels on it, bit
+ * for bit. They answer every word, and the processor's float settings change nothing in them. A controller without floats needs
+ * that header and libsoft.a, and nothing of this one.
+ */
 
 /* ---- Helpers, in this header alone */
 

@@ -1,5 +1,5 @@
-/* The header's examples, from C: each call beside the answer that is due. Says which are wrong and exits with 1 if any is. The
- * recipes are in recipes.c. */
+/* The headers' examples, from C: each call beside the answer that is due. Says which are wrong and exits with 1 if any is. The
+ * recipes are in recipes.c, and the second engine is in soft.c. */
 #include "dampmeadow.h"
 #include "hold.h"
 #include <inttypes.h>
@@ -11,7 +11,7 @@ void hold(const char *what, uint64_t answer, uint64_t due)
 {
     tried++;
     if (answer == due) return;
-    wrong++;
+    if (wrong++ >= 100) return; /* the first hundred say enough */
     printf("%s: %010" PRIx64 ", and %010" PRIx64 " is due\n", what, answer, due);
 }
 
@@ -386,6 +386,7 @@ int main(void)
     line("094080000000000000", 10, DAMPMEADOW_NO_ROOM, "");
 
     recipes();
+    second_engine();
 
     hold("the refusal of an answer", dampmeadow_refusal_of(0x300000000), DAMPMEADOW_NEGATIVE);
     hold("the mark of an answer", dampmeadow_mark_of(0x1bf800000), DAMPMEADOW_DROPPED);

@@ -1,5 +1,6 @@
-// The header from C++: guarded calls as values or refusals, each beside the answer that is due. Says which are wrong and exits
-// with 1 if any is.
+// The headers from C++: guarded calls as values or refusals, and the second engine's words, each beside the answer that is due.
+// Says which are wrong and exits with 1 if any is.
+#include "dampmeadow_soft.h" // the first, so that it has to stand by itself
 #include "dampmeadow.h"
 #include <cstdio>
 #include <string>
@@ -134,6 +135,87 @@ void line(const std::string &text, const std::string &due)
     if (got == due + "\n") return;
     wrong++;
     std::printf("the answer to '%s' is %s and %s is due\n", text.c_str(), got.c_str(), due.c_str());
+}
+
+// An operation of the second engine, by its sign, with its operands and the word that is due.
+struct Row {
+    uint32_t a;
+    char sign;
+    uint32_t b, due;
+
+    uint32_t soft() const
+    {
+        switch (sign) {
+        case '+': return dampmeadow_soft_add(a, b);
+        case '-': return dampmeadow_soft_sub(a, b);
+        case '*': return dampmeadow_soft_mul(a, b);
+        default: return dampmeadow_soft_div(a, b);
+        }
+    }
+};
+
+const Row operations[] = {
+    // exact, ties to the even word, and a little to one side of a tie
+    {0x3f800000, '+', 0x40000000, 0x40400000}, {0x3f800000, '+', 0x33800000, 0x3f800000},
+    {0x3f800001, '+', 0x33800000, 0x3f800002}, {0x3f800000, '+', 0x33800001, 0x3f800001},
+    {0x40000000, '-', 0x3f800000, 0x3f800000}, {0x3f800000, '-', 0x33000000, 0x3f800000},
+    {0x3f800001, '-', 0x3f800000, 0x34000000}, {0x3f800000, '-', 0x33000001, 0x3f7fffff},
+    {0x40000000, '*', 0xc0400000, 0xc0c00000}, {0x3f800001, '*', 0x3fc00000, 0x3fc00002},
+    {0x3f800003, '*', 0x3fc00000, 0x3fc00004}, {0x3f800000, '/', 0x40400000, 0x3eaaaaab},
+    {0x3f800000, '/', 0x3fffffff, 0x3f000001}, {0x3faaaaaa, '/', 0xbfaaaaab, 0xbf7fffff},
+    // too large
+    {0x7f7fffff, '+', 0x73000000, 0x7f800000}, {0x7f7fffff, '+', 0x72ffffff, 0x7f7fffff},
+    {0xff7fffff, '-', 0x73000000, 0xff800000}, {0x5f800000, '*', 0xdf800000, 0xff800000},
+    {0x7f7fffff, '/', 0x3f7fffff, 0x7f800000}, {0x7f7ffffe, '/', 0x3f7fffff, 0x7f7fffff},
+    // too small to be normal
+    {0x00800000, '-', 0x00000001, 0x007fffff}, {0x00000001, '+', 0x00000001, 0x00000002},
+    {0x00000001, '*', 0x3f000000, 0x00000000}, {0x80000001, '*', 0x3f000000, 0x80000000},
+    {0x00000003, '*', 0x3f000000, 0x00000002}, {0x20000000, '*', 0x1f800000, 0x00400000},
+    {0x1ac00003, '*', 0x19fffffc, 0x00000001}, {0x80000001, '*', 0x00000001, 0x80000000},
+    {0x00000001, '*', 0x7f7fffff, 0x34ffffff}, {0x00800000, '*', 0x3f7fffff, 0x00800000},
+    {0x00000001, '/', 0x3f000001, 0x00000002}, {0x00000001, '/', 0x3fffffff, 0x00000001},
+    {0x00000003, '/', 0x40000000, 0x00000002}, {0x00000001, '/', 0x7f7fffff, 0x00000000},
+    {0x00000001, '/', 0x00ffffff, 0x33800001}, {0x00800000, '/', 0x80000001, 0xcb000000},
+    // zeros
+    {0x80000000, '+', 0x80000000, 0x80000000}, {0x00000000, '+', 0x80000000, 0x00000000},
+    {0xbf800000, '+', 0x3f800000, 0x00000000}, {0xc0200000, '-', 0xc0200000, 0x00000000},
+    {0x80000000, '-', 0x80000000, 0x00000000}, {0x80000000, '-', 0x00000000, 0x80000000},
+    {0x00000000, '*', 0xbf800000, 0x80000000}, {0x00000000, '/', 0xbf800000, 0x80000000},
+    {0x3f800000, '/', 0x80000000, 0xff800000}, {0x00000000, '/', 0x00000000, 0x7fc00000},
+    // infinities and NaN
+    {0x7f800000, '+', 0x7f800000, 0x7f800000}, {0x7f800000, '+', 0xff800000, 0x7fc00000},
+    {0xff800000, '+', 0x7f7fffff, 0xff800000}, {0x7f800000, '-', 0x7f800000, 0x7fc00000},
+    {0x3f800000, '-', 0x7f800000, 0xff800000}, {0xff800000, '*', 0x00000001, 0xff800000},
+    {0x00000000, '*', 0x7f800000, 0x7fc00000}, {0xff800000, '*', 0x00000000, 0x7fc00000},
+    {0x7f800000, '/', 0xff800000, 0x7fc00000}, {0x7f800000, '/', 0x80000000, 0xff800000},
+    {0xff7fffff, '/', 0x7f800000, 0x80000000}, {0x7f800001, '+', 0x3f800000, 0x7fc00000},
+    {0x7f800000, '-', 0xffc00000, 0x7fc00000}, {0xffffffff, '*', 0x00000000, 0x7fc00000},
+    {0x3f800000, '/', 0xff800001, 0x7fc00000},
+};
+
+void word(const char *what, uint32_t a, uint32_t got, uint64_t due)
+{
+    tried++;
+    if (got == due) return;
+    if (wrong++ >= 100) return; // the first hundred say enough
+    std::printf("soft %s, first %08x: %08x, and %08llx is due\n", what, unsigned(a), unsigned(got), static_cast<unsigned long long>(due));
+}
+
+// The kernels beside the library's raw ones, over words of either sign that are evenly spread.
+void second_engine()
+{
+    for (const Row &row : operations) word(std::string(1, row.sign).c_str(), row.a, row.soft(), row.due);
+    word("cos", 0x3f800000, dampmeadow_soft_cos(0x3f800000), 0x3f0a5d25);
+    word("sin", 0x3f800000, dampmeadow_soft_sin(0x3f800000), 0x3f57984f);
+    word("atan_norm", 0x3f800000, dampmeadow_soft_atan_norm(0x3f800000), 0x3f000000);
+    word("atan", 0x3f000000, dampmeadow_soft_atan(0x3f000000), 0x3eeec47c);
+    for (uint32_t i = 0; i < 4000; i++) {
+        const uint32_t a = i * 1073741;
+        word("cos", a, dampmeadow_soft_cos(a), dampmeadow_words(DAMPMEADOW_RAW + DAMPMEADOW_COS, a, 0));
+        word("sin", a, dampmeadow_soft_sin(a), dampmeadow_words(DAMPMEADOW_RAW + DAMPMEADOW_SIN, a, 0));
+        word("atan_norm", a, dampmeadow_soft_atan_norm(a), dampmeadow_atan_norm(a));
+        word("atan", a, dampmeadow_soft_atan(a), dampmeadow_words(DAMPMEADOW_RAW + DAMPMEADOW_ATAN, a, 0));
+    }
 }
 
 }
@@ -272,6 +354,7 @@ int main()
         recipe(other, 1.0f, DAMPMEADOW_NOT_A_RECIPE, 0.0f);
     recipe(std::string(1, '\0'), 1.0f, DAMPMEADOW_NOT_A_RECIPE, 0.0f);
     recipe(std::string("x\0", 2), 1.0f, DAMPMEADOW_NOT_A_RECIPE, 0.0f);
+    second_engine();
 
     std::printf("C++: %d tried, %d wrong\n", tried, wrong);
     return wrong != 0;

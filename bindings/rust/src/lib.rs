@@ -25,7 +25,8 @@
 //! cast to an integer did to the number. [`call`] takes any operation by its number, [`strip`] the same over whole lists, and
 //! [`answer`] a frame, which is a line of text. A [`Grain`] is a record of samples, their running mean and spread, that is
 //! changed in place as each is offered. [`recipe`] works out a formula of kernels on a line of text, and what it gives may be a
-//! NaN. The library itself keeps nothing between calls, so they may be made from any thread.
+//! NaN. [`soft`] has a second engine, for a controller without floats: four operations and four kernels on words, with whole
+//! numbers alone. The library itself keeps nothing between calls, so they may be made from any thread.
 //!
 //! The build script finds the library, or proves and builds it, which takes a minute or two the first time; where it cannot, it
 //! says what is missing. The library asks for one function from outside, `fmodf`: it is Rust's own where Rust brings one, and
@@ -40,6 +41,7 @@ mod mark;
 mod operation;
 mod recipe;
 mod refusal;
+pub mod soft;
 mod strip;
 
 pub use grain::Grain;
@@ -78,6 +80,14 @@ mod exported {
         pub fn dampmeadow_ceil_marked(a: u32) -> u64;
         pub fn dampmeadow_grain_offer(grain: *mut Grain, sample: u32) -> u32;
         pub fn dampmeadow_recipe(line: *const u8, length: usize, x: u32) -> u64;
+        pub fn dampmeadow_soft_add(a: u32, b: u32) -> u32;
+        pub fn dampmeadow_soft_sub(a: u32, b: u32) -> u32;
+        pub fn dampmeadow_soft_mul(a: u32, b: u32) -> u32;
+        pub fn dampmeadow_soft_div(a: u32, b: u32) -> u32;
+        pub fn dampmeadow_soft_cos(a: u32) -> u32;
+        pub fn dampmeadow_soft_sin(a: u32) -> u32;
+        pub fn dampmeadow_soft_atan_norm(a: u32) -> u32;
+        pub fn dampmeadow_soft_atan(a: u32) -> u32;
     }
 }
 
