@@ -1,38 +1,40 @@
-# Builds libraries of this repository for the machine that it runs on. Sourced by compare/run, bindings/try and
-# examples/specks/run, which have set root, the repository's folder, and have say, a message, and stop, a message and the end
-# with status 2.
+# Builds libraries of this repository for the machine that it runs on, or for another. Sourced by compare/run, bindings/try,
+# controller/run and the examples' run, which have set root, the repository's folder, and have say, a message, and stop, a message
+# and the end with status 2.
 libraries=$root/target/library
 
-# Builds libraries/lib$1.a for this machine, if the crates have changed since it was last built. rt compiles for x86-64; on
-# another processor the same module goes through the same compiler with this machine for its target, by a kit that differs in
-# nothing but that.
+# Builds libraries/lib$1.a for this machine, if the crates have changed since it was last built; with a target, and more words for
+# the compiler, libraries/TARGET/lib$1.a for that. rt compiles for x86-64; for another processor the same module goes through the
+# same compiler with another target, by a kit that differs in nothing but that.
 library() {
-    local machine kit made kept log status
-    [ -f "$libraries/lib$1.a" ] && [ -z "$(find "$root/crates.txt" "$root/crates" -newer "$libraries/lib$1.a" -print -quit)" ] && return
+    local target=${2-} into machine kit made kept log status
+    into=$libraries${target:+/$target}
+    [ -f "$into/lib$1.a" ] && [ -z "$(find "$root/crates.txt" "$root/crates" -newer "$into/lib$1.a" -print -quit)" ] && return
     command -v rt >/dev/null || stop "rt is missing: it is the command of the Rattle kit, which proves and builds lib$1.a"
-    mkdir -p "$libraries" || stop "cannot write to $libraries"
-    say "building lib$1.a"
+    mkdir -p "$into" || stop "cannot write to $into"
+    say "building lib$1.a${target:+ for $target}"
     machine=$(uname -m)
+    [ -n "$target" ] || [ "$machine" = x86_64 ] || target=$machine-unknown-linux-gnu
     kit=
-    if [ "$machine" != x86_64 ]; then
-        kit=$libraries/kit
-        own_kit "$(dirname "$(dirname "$(rt doc)")")" "$machine" "$kit"
+    if [ -n "$target" ]; then
+        kit=$into/kit
+        own_kit "$(dirname "$(dirname "$(rt doc)")")" "$machine" "$kit" --target="$target" "${@:3}"
     fi
     # what stands in target/staticlib/ is its user's, and stays
     made=$root/target/staticlib/lib$1.a
-    kept=$libraries/kept.lib$1.a
-    log=$libraries/$1.log
+    kept=$into/kept.lib$1.a
+    log=$into/$1.log
     # an interrupted build may have left it put aside
     [ ! -f "$kept" ] || [ -f "$made" ] || mv "$kept" "$made"
     [ ! -f "$made" ] || mv "$made" "$kept"
     (cd "$root" && if [ -n "$kit" ]; then export RATTLE_HOME="$kit"; fi && rt staticlib "$1") </dev/null >"$log" 2>&1
     status=$?
-    [ $status -ne 0 ] || mv "$made" "$libraries/lib$1.a"
+    [ $status -ne 0 ] || mv "$made" "$into/lib$1.a"
     [ ! -f "$kept" ] || mv "$kept" "$made"
     [ $status -eq 0 ] || { tail -n 20 "$log" >&2; stop "lib$1.a was not built"; }
 }
 
-# $3 becomes links to all of the kit $1 but its clang, which is called for the machine $2
+# $3 becomes links to all of the kit $1 on the machine $2 but its clang, which is called with the words after them
 own_kit() {
     rm -rf "$3" && mkdir -p "$3/on/$2/toolchain/bin" || stop "cannot write to $3"
     ln -s "$1"/* "$3/" 2>/dev/null
@@ -44,7 +46,7 @@ own_kit() {
 #!/usr/bin/env bash
 words=()
 for word in "\$@"; do case \$word in --target=* | -march=* | -Werror) ;; *) words+=("\$word") ;; esac; done
-exec "$1/on/$2/toolchain/bin/clang" --target=$2-unknown-linux-gnu -Wno-override-module "\${words[@]}" 2>/dev/null
+exec "$1/on/$2/toolchain/bin/clang" ${@:4} -Wno-override-module "\${words[@]}" 2>/dev/null
 SCRIPT
     chmod +x "$3/on/$2/toolchain/bin/clang"
 }

@@ -16,6 +16,11 @@ mod recipe_list;
 mod recipes;
 mod refusals;
 mod remainder;
+mod soft;
+mod soft_judge;
+mod soft_list;
+mod soft_pairs;
+mod soft_rows;
 mod speed;
 mod steps;
 mod strips;
@@ -44,6 +49,8 @@ enum Lines {
     Recipes(String),
     /// Write the recorded list of recipes to a folder.
     RecipeList(String),
+    /// Write the recorded list of the engine without floats to a folder.
+    SoftList(String),
 }
 
 struct Wanted {
@@ -68,6 +75,7 @@ fn wanted() -> Result<Wanted, String> {
             "--frames-speed" => wanted.lines = Some(Lines::FramesSpeed(args.next().unwrap_or_default())),
             "--recipes" => wanted.lines = Some(Lines::Recipes(args.next().unwrap_or_default())),
             "--recipe-list" => wanted.lines = Some(Lines::RecipeList(args.next().unwrap_or_default())),
+            "--soft-list" => wanted.lines = Some(Lines::SoftList(args.next().unwrap_or_default())),
             _ => return Err(format!("no such option: {arg}")),
         }
     }
@@ -88,6 +96,7 @@ fn lines(lines: &Lines) -> i32 {
         Lines::FramesSpeed(program) => (program.as_str(), frames_speed::speed(&reader, program)),
         Lines::Recipes(program) => (program.as_str(), recipes::compare(program)),
         Lines::RecipeList(folder) => (folder.as_str(), recipes::write(Path::new(folder)).map(|()| true)),
+        Lines::SoftList(folder) => (folder.as_str(), soft_list::write(Path::new(folder)).map(|()| true)),
     };
     match done {
         Ok(agree) => !agree as i32,
@@ -95,6 +104,29 @@ fn lines(lines: &Lines) -> i32 {
             eprintln!("compare: {what}: {why}");
             2
         }
+    }
+}
+
+/// Says how long the chosen kernels take, and, where these are wanted, an offer of grain, recipes and the calls without floats.
+fn measure(all: &[Kernel], chosen: &[&Kernel], [wants_grain, wants_recipes, wants_soft]: [bool; 3]) {
+    let raw = |kernel: &Kernel| all.iter().find(|k| kernel.is_guarded() && !k.is_guarded() && k.name == kernel.name);
+    if !chosen.is_empty() {
+        println!("{}", speed::heading());
+    }
+    for kernel in chosen {
+        println!("{}", speed::line(kernel, raw(kernel)));
+    }
+    for line in chosen.iter().filter_map(|kernel| speed::long(kernel, raw(kernel))) {
+        println!("{line}");
+    }
+    if wants_grain {
+        println!("{}", grain::speed());
+    }
+    if wants_recipes {
+        recipes::speed().iter().for_each(|line| println!("{line}"));
+    }
+    if wants_soft {
+        soft::speed().iter().for_each(|line| println!("{line}"));
     }
 }
 
@@ -107,33 +139,17 @@ fn main() {
         exit(lines(of));
     }
     let all = if wanted.speed { kernels::beside_the_crate() } else { kernels::all() };
-    let keys = [grain::KEY, recipes::KEY];
+    let keys = [grain::KEY, recipes::KEY, soft::KEY];
     if let Some(key) = wanted.only.iter().find(|key| !keys.contains(&key.as_str()) && !all.iter().any(|k| k.key() == **key)) {
         eprintln!("compare: nothing here has the number or name {key:?}");
         exit(2);
     }
     let wants = |kernel: &Kernel| wanted.only.is_empty() || wanted.only.contains(&kernel.key());
     let chosen: Vec<&Kernel> = all.iter().filter(|k| wants(k)).collect();
-    let [wants_grain, wants_recipes] = keys.map(|key| wanted.only.is_empty() || wanted.only.iter().any(|only| only == key));
+    let [wants_grain, wants_recipes, wants_soft] = keys.map(|key| wanted.only.is_empty() || wanted.only.iter().any(|only| only == key));
 
     if wanted.speed {
-        let raw = |kernel: &Kernel| all.iter().find(|k| kernel.is_guarded() && !k.is_guarded() && k.name == kernel.name);
-        if !chosen.is_empty() {
-            println!("{}", speed::heading());
-        }
-        for kernel in &chosen {
-            println!("{}", speed::line(kernel, raw(kernel)));
-        }
-        for line in chosen.iter().filter_map(|kernel| speed::long(kernel, raw(kernel))) {
-            println!("{line}");
-        }
-        if wants_grain {
-            println!("{}", grain::speed());
-        }
-        if wants_recipes {
-            recipes::speed().iter().for_each(|line| println!("{line}"));
-        }
-        return;
+        return measure(&all, &chosen, [wants_grain, wants_recipes, wants_soft]);
     }
     let mut total = Count::default();
     let mut report = |label: &str, count: Count| {
@@ -160,6 +176,9 @@ fn main() {
     }
     if wants_recipes {
         recipes::recipes(wanted.every, &mut report);
+    }
+    if wants_soft {
+        soft::soft(wanted.every, &mut report);
     }
     println!("{}", sweep::line("in all", &total));
     exit(if total.differ == 0 { 0 } else { 1 });

@@ -8,7 +8,7 @@ const SIGN: u32 = 0x8000_0000;
 const INFINITY: u32 = 0x7f80_0000;
 
 /// A finite number without its sign: a whole number, and how many times it is doubled, counted from the smallest number there is.
-fn parts(w: u32) -> (u64, u32) {
+pub fn parts(w: u32) -> (u64, u32) {
     let (field, fraction) = (w >> 23, (w & 0x007f_ffff) as u64);
     if field == 0 {
         (fraction, 0)

@@ -6,8 +6,8 @@ use crate::words::Random;
 use std::hint::black_box;
 use std::time::Instant;
 
-const WORDS: usize = 4_096;
-const TURNS: usize = 64;
+pub const WORDS: usize = 4_096;
+pub const TURNS: usize = 64;
 pub const RUNS: usize = 31;
 
 /// The words of a long strip, which is a run by itself, and the kernels that are timed over one.
@@ -33,7 +33,7 @@ impl<'a> Side<'a> {
 }
 
 /// A turn that makes a call for each word.
-fn singly<'a>(words: &'a [(u32, u32)], call: impl Fn(u32, u32) -> u64 + 'a) -> impl FnMut() + 'a {
+pub fn singly<'a>(words: &'a [(u32, u32)], call: impl Fn(u32, u32) -> u64 + 'a) -> impl FnMut() + 'a {
     move || {
         for &(a, b) in black_box(words) {
             black_box(call(a, b));
