@@ -74,7 +74,7 @@ fn power(k: u32) -> u32 {
 
 /// Sums that are half a step beside a word, or nearly.
 fn half_steps() -> Vec<Row> {
-    let beside = |a: u32, half: u32| [half - 1, half, half + 1].into_iter().flat_map(move |b| [(Add, a, b), (Add, b | SIGN, a | SIGN), (Sub, a, b), (Sub, b, a)]);
+    let beside = |a: u32, half: u32| [half - 1, half, half + 1].into_iter().flat_map(move |b| [(Add, a, b), (Add, b | SIGN, a | SIGN), (Add, a, b | SIGN), (Sub, a, b), (Sub, b, a)]);
     let above = both(&[2, 3, 24, 127, 254], &[0, 1, 0x7f_fffe, 0x7f_ffff]).flat_map(|(field, fraction)| beside(field << 23 | fraction, power(field - 2)));
     // below a power of two a step is half as long
     let below = [3, 24, 127, 254].into_iter().flat_map(|field| beside(field << 23, power(field - 3)));
