@@ -41,6 +41,9 @@ b-finite c = finite-else binary32 _ (b-number (c .before .before .before .before
 b-zero : (c : tie.Then6) → Zero binary32 (c .before .before .before .before .before .before .before .before .before .before .args .b)
 b-zero c = eqb-true _ _ (sym (c .before .is-zero .ensures) ∙ c .if6 .taken)
 
+a-zero : (c : tie.Then7) → Zero binary32 (c .before .before .before .before .before .before .before .before .before .before .before .before .args .a)
+a-zero c = eqb-true _ _ (sym (c .before .is-zero2 .ensures) ∙ c .if7 .taken)
+
 signed : (s t : Bool) → s ≡ t → signBit binary32 s + infWord binary32 ≡ signBit binary32 t + infWord binary32
 signed s t e = ap (λ (s : Bool). signBit binary32 s + infWord binary32) e
 
@@ -81,7 +84,7 @@ div-spec =
     (λ c.
     let t = c .before .before in
     let s = t .before .before .before .before .before .before .before .before .before .before .args in
-    both (s .a) (s .b) _ (sym (div-divides binary32 (s .a) (s .b) .zero-zero (eqb-true _ _ (sym (c .before .is-zero2 .ensures) ∙ c .if7 .taken)) (b-zero t))))
+    both (s .a) (s .b) _ (sym (div-divides binary32 (s .a) (s .b) .zero-zero (a-zero c) (b-zero t))))
     (λ c κs. search needs)
     (λ c κs. search needs)
     (λ c.
