@@ -3,13 +3,14 @@
 # and the end with status 2.
 libraries=$root/target/library
 
-# Builds libraries/lib$1.a for this machine, if the crates have changed since it was last built; with a target, and more words for
-# the compiler, libraries/TARGET/lib$1.a for that. rt compiles for x86-64; for another processor the same module goes through the
+# Builds libraries/lib$1.a for this machine, if the crates, the kit or the words have changed since it was last built; with a
+# target, and more words for the compiler, libraries/TARGET/lib$1.a for that. rt compiles for x86-64; for another processor the same module goes through the
 # same compiler with another target, by a kit that differs in nothing but that.
 library() {
-    local target=${2-} into machine kit made kept log status
+    local target=${2-} into by machine kit made kept log status
     into=$libraries${target:+/$target}
-    [ -f "$into/lib$1.a" ] && [ -z "$(find "$root/crates.txt" "$root/crates" -newer "$into/lib$1.a" -print -quit)" ] && return
+    by="$(rt version 2>/dev/null) ${*:2}"
+    [ -f "$into/lib$1.a" ] && [ "$(cat "$into/$1.by" 2>/dev/null)" = "$by" ] && [ -z "$(find "$root/crates.txt" "$root/crates" -newer "$into/lib$1.a" -print -quit)" ] && return
     command -v rt >/dev/null || stop "rt is missing: it is the command of the Rattle kit, which proves and builds lib$1.a"
     mkdir -p "$into" || stop "cannot write to $into"
     say "building lib$1.a${target:+ for $target}"
@@ -29,7 +30,7 @@ library() {
     [ ! -f "$made" ] || mv "$made" "$kept"
     (cd "$root" && if [ -n "$kit" ]; then export RATTLE_HOME="$kit"; fi && rt staticlib "$1") </dev/null >"$log" 2>&1
     status=$?
-    [ $status -ne 0 ] || mv "$made" "$into/lib$1.a"
+    [ $status -ne 0 ] || { mv "$made" "$into/lib$1.a" && printf '%s\n' "$by" >"$into/$1.by"; }
     [ ! -f "$kept" ] || mv "$kept" "$made"
     [ $status -eq 0 ] || { tail -n 20 "$log" >&2; stop "lib$1.a was not built"; }
 }

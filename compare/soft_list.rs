@@ -164,7 +164,7 @@ fn kernel_words() -> Vec<Row> {
     NAMES.into_iter().flat_map(|name| words.iter().map(move |a| Row::Word(name, *a))).collect()
 }
 
-/// The whole list, each row once. New rows are added to those that came last.
+/// The whole list, each row once, where it first comes.
 pub fn list() -> Vec<Row> {
     let by_hand = by_hand().map(|(row, _)| row).collect();
     let made = [by_hand, edge_pairs(), half_steps(), far_and_near(), products(), quotients(), random_pairs(800), kernel_words()];

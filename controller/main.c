@@ -59,17 +59,19 @@ static uint32_t instructions(const struct call *call, uint32_t a, uint32_t b)
     return (own * 5 + 64) / 128 + 1;
 }
 
-/* How many bytes of the stack a call uses: it is filled with a pattern, and looked through from its far end. */
+/* How many bytes of the stack a call uses: each word of it is filled with one that stands in no register, and looked for from its
+ * far end. */
 static __attribute__((noinline)) uint32_t stack(const struct call *call, uint32_t a, uint32_t b)
 {
     enum { DEPTH = 256 };
     const uint32_t pattern = 0xd0d0cafe;
     volatile uint32_t *top;
     __asm__ volatile("mov %0, sp" : "=r"(top));
-    for (int i = 1; i <= DEPTH; i++) top[-i] = pattern;
+    for (int i = 1; i <= DEPTH; i++) top[-i] = pattern + (uint32_t)i;
     answer(call, a, b);
     int used = DEPTH;
-    while (used > 0 && top[-used] == pattern) used--;
+    while (used > 0 && top[-used] == pattern + (uint32_t)used) used--;
+    if (used == DEPTH) say("a call uses more of the stack than was looked at\n"), stop(1);
     return (uint32_t)used * sizeof *top;
 }
 

@@ -6,8 +6,8 @@
  *   cc -I include program.c target/staticlib/libsoft.a                  these calls alone; `rt staticlib soft` builds it
  *   cc -I include program.c target/staticlib/libdampmeadow.a -lm        every call; `rt staticlib dampmeadow` builds it
  *
- * libsoft.a has no float instruction, and needs nothing from outside. Neither has it, nor does it need anything, for a 32-bit ARM
- * without float hardware: controller/run builds it for a Cortex-M3.
+ * libsoft.a has no float instruction, and needs nothing from outside. The same holds of it for a 32-bit ARM without float hardware:
+ * controller/run builds it for a Cortex-M3.
  *
  * A number goes in and comes out as 32 bits, its "word", in the format that IEEE 754 calls binary32. The highest bit is the
  * sign, 1 for minus; the next eight are the exponent E, and the last 23 the fraction F:

@@ -55,7 +55,7 @@ pub fn sub(a: u32, b: u32) -> u32 {
     unsafe { exported::dampmeadow_soft_sub(a, b) }
 }
 
-/// a * b, with a minus where the signs differ, of a zero and an infinity too. A zero times an infinity is a NaN.
+/// a * b, minus where the signs differ, be it a zero or an infinity. A zero times an infinity is a NaN.
 ///
 /// ```
 /// use dampmeadow::soft::mul;
@@ -71,7 +71,7 @@ pub fn mul(a: u32, b: u32) -> u32 {
     unsafe { exported::dampmeadow_soft_mul(a, b) }
 }
 
-/// a / b, with a minus where the signs differ, of a zero and an infinity too. A number other than 0 over a zero is an infinity,
+/// a / b, minus where the signs differ, be it a zero or an infinity. A number other than 0 over a zero is an infinity,
 /// and an infinity over a zero is one; a zero over a zero and an infinity over an infinity are a NaN.
 ///
 /// ```

@@ -10,8 +10,7 @@ use crate::parts;
 use crate::rounding;
 use float::F32;
 
-// A number of units over another is no unit but 1, which is 2^149 of them; and the quotient of digits
-// gets one digit more.
+// Units over units are a plain number, and 1 is 2^149 units; the quotient of digits has one digit more.
 const QUOTIENT: u32 = rounding::UNIT + 149 - 1;
 
 // n * 2^32 over a number of 24 digits, without what is left over: eight digits at a time, so that a
