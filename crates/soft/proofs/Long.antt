@@ -16,7 +16,7 @@ module _ (n b : ℕ) where
   pub next-digits : 0 < b → n * 256 / b ≡ n / b * 256 + n % b * 256 / b
   next-digits B = ap (λ (z : ℕ). z / b) parts ∙ mul-add-div-right B (n / b * 256) (n % b * 256)
 
--- what n is divided by b after so many turns: the quotient by then, and what is left
+-- n over b after so many turns: the quotient by then, and what is left
 pub record Turned (n b turn whole rest : ℕ) : Type 0 where
   pub few : turn ≤ 4
   pub digits : whole ≡ n * 2 ^ (8 * turn) / b

@@ -13,8 +13,8 @@ use float::F32;
 // Units over units are a plain number, and 1 is 2^149 units; the quotient of digits has one digit more.
 const QUOTIENT: u32 = rounding::UNIT + 149 - 1;
 
-// n * 2^32 over a number of 24 digits, without what is left over: eight digits at a time, so that a
-// controller divides by an instruction of its own.
+// n * 2^32 over a number of 24 digits at most, without what is left over: eight digits at a time, so that
+// a controller divides by an instruction of its own.
 fn divided(n: u32, by: u32) -> u64
     requires { ⌜ (0 < by) × (by < 2 ^ 24) ⌝ }
     ensures { λ r. ⌜ r ≡ n * 2 ^ 32 / by ⌝ }

@@ -7,8 +7,8 @@ ghost use Rattle.soft.specs.Digits.{scaledWord};
 use crate::parts;
 use float::F32;
 
-// Where the place of one unit, the smallest number there is, is counted from: so high that no place of
-// a product or a quotient is below 62.
+// The place of one unit, which is the smallest number there is: so high that no place of a product or a
+// quotient is below 62.
 pub(crate) const UNIT: u32 = 300;
 
 // The highest place at which 63 digits are rounded to whole units. From the next on 39 of them are
