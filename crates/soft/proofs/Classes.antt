@@ -1,13 +1,13 @@
 -- Which value of `lib.Ieee` a word of each class is: a NaN, an infinity, or a number with the word's sign and units. Assumes nothing.
 use Prim.Native.Nat.{ℕ, _+_, _/_, _%_, _≤_, _<_, zero-le}
-use native.Mathlib.Nat.{mul-div-cancel, div-lt-iff-lt-mul, not-le-of-lt, lt-of-not-le, zero-div, zero-mod}
+use native.Mathlib.Nat.{lt-irrefl, mul-div-cancel, div-lt-iff-lt-mul, not-le-of-lt, lt-of-not-le, zero-div, zero-mod}
 use native.Mathlib.Omega.{arith}
 use mathlib.Core.Path.{_≡_, refl, sym, ap, subst, _∙_}
 use mathlib.Core.Bool.{Bool, true, false}
-use borrow.Author.Tests.{le-ltb, ltb-false, eqb-true, eqb-false}
+use borrow.Author.Tests.{le-ltb, ltb-false, eqb-true, eqb-false, ne-eqb}
 use lib.Arith.{lt-of-le-ne}
 use lib.Dec.{eqb, lit<}
-use lib.Ieee.{Format, inf, fin, binary32, binary64, hid, ones, top, nanBits, ofBits, toBits}
+use lib.Ieee.{Format, Float, inf, fin, binary32, binary64, hid, ones, top, nanBits, ofBits, toBits}
 use lib.Ieee.Bits.{nanBits-above}
 use lib.IntN.{pos}
 use Rattle.format.specs.Fields.{negative, magnitude, fraction, signBit, infWord}
@@ -81,3 +81,10 @@ nonzero f w n e = (lt-of-le-ne zero-le (λ (z : 0 ≡ magnitude f w). n (sym z))
 
 pub below-infinite : (f : Format) (w : ℕ) → Finite f w → magnitude f w < infWord f
 below-infinite f w h = div-lt-iff-lt-mul (hid-pos f) .0 h
+
+pub not-zero : (f : Format) (w : ℕ) → 0 < magnitude f w → eqb (units f w) 0 ≡ false
+not-zero f w p = ne-eqb (units f w) 0 (λ (e : units f w ≡ 0). lt-irrefl 0 (subst (λ (z : ℕ). 0 < z) e (units-pos f w p)))
+
+-- an operation of two words by what they are
+pub operated : (f : Format) (op : Float → Float → Float) (a b : ℕ) (x y z : Float) → ofBits f a ≡ x → ofBits f b ≡ y → op x y ≡ z → toBits f (op (ofBits f a) (ofBits f b)) ≡ toBits f z
+operated f op a b x y z p q e = ap (toBits f) (ap (λ (w : Float). op w (ofBits f b)) p ∙ ap (op x) q ∙ e)

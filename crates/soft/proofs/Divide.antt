@@ -1,10 +1,10 @@
 -- The quotient of two words is what IEEE 754 says of it, by the definition over whole numbers, and there is one such word. Assumes nothing.
 use Prim.Native.Nat.{ℕ, _*_, _^_, _<_, zero-le}
-use native.Mathlib.Nat.{lt-irrefl, eq-or-lt-of-le}
+use native.Mathlib.Nat.{eq-or-lt-of-le}
 use mathlib.Core.Path.{_≡_, refl, sym, ap, subst, _∙_}
 use mathlib.Core.Logic.{_⊎_, inl, inr}
 use mathlib.Core.Bool.{Bool, true, false, cond}
-use borrow.Author.Tests.{eq-eqb, ne-eqb}
+use borrow.Author.Tests.{eq-eqb}
 use lib.Dec.{eqb}
 use lib.Pow.{pow-pos}
 use lib.Ieee.{Format, Float, nan, inf, fin, low, unlike, div, ofBits, toBits}
@@ -17,7 +17,7 @@ use Rattle.soft.specs.Rounding.{Rounded}
 use Rattle.soft.specs.Operations.{Zero, Divides}
 use Rattle.soft.specs.Words.{divWord}
 use Rattle.soft.specs.Digits.{nearestWord}
-use Rattle.soft.proofs.Classes.{inf-is, zero-units, zero-finite, units-pos, inf-written, zero-written, class-of, Class, a-nan, an-inf, a-number}
+use Rattle.soft.proofs.Classes.{not-zero, operated, inf-is, zero-units, zero-finite, units-pos, inf-written, zero-written, class-of, Class, a-nan, an-inf, a-number}
 use Rattle.soft.proofs.Correct.{round-word-rounded, rounded-one}
 use Rattle.soft.proofs.Values.{div-nan-first, div-nan-second, div-inf-inf, div-inf-first, div-inf-second, div-by-zero, div-values}
 
@@ -27,7 +27,7 @@ module _ (f : Format) (a b : ℕ) where
 
   at : (x y z : Float) → ofBits f a ≡ x → ofBits f b ≡ y → div f x y ≡ z → divWord f a b ≡ toBits f z
   unfolding divWord
-  at x y z p q e = ap (toBits f) (ap (λ (w : Float). div f w (ofBits f b)) p ∙ ap (div f x) q ∙ e)
+  at x y z p q e = operated f (div f) a b x y z p q e
 
   pub div-finite : Finite f a → Finite f b → 0 < magnitude f b → divWord f a b ≡ nearestWord f s (units f a * 2 ^ low f) (units f b)
   unfolding divWord nearestWord
@@ -48,7 +48,7 @@ module _ (f : Format) (a b : ℕ) where
     infinite-finite = λ h k. at (inf (negative f a)) (ofBits f b) (inf s) (inf-is f a h) refl (div-inf-first f (negative f a) (negative f b) (ofBits f b) (units f b) (2 ^ low f) (word-value f b k)) ∙ inf-written f s;
     finite-infinite = λ h k. at (ofBits f a) (inf (negative f b)) (fin s 0 (pos 0)) refl (inf-is f b k) (div-inf-second f (negative f a) (negative f b) (ofBits f a) (units f a) (2 ^ low f) (word-value f a h)) ∙ zero-written f s;
     zero-zero = λ h k. by-zero (zero-finite f a h) k true (eq-eqb (units f a) 0 (zero-units f a h)) ∙ nan-written f;
-    by-zero = λ h p k. by-zero h k false (ne-eqb (units f a) 0 (λ (e : units f a ≡ 0). lt-irrefl 0 (subst (λ (z : ℕ). 0 < z) e (units-pos f a p)))) ∙ inf-written f s;
+    by-zero = λ h p k. by-zero h k false (not-zero f a p) ∙ inf-written f s;
     finite = λ h k p. subst (Rounded f s (units f a * 2 ^ low f) (units f b)) (sym (div-finite h k p)) (round-word-rounded f s (units f a * 2 ^ low f) (units f b) (units-pos f b p));
   }
 

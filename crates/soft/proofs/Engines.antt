@@ -17,6 +17,7 @@ use Rattle.format.proofs.Whole.{floor-fits}
 use Rattle.float.specs.Engine.{ieee, absOf, floorOf}
 use Rattle.float.specs.Cos.{turns, centred, parabola, refined, cosWord, sinWord}
 use Rattle.float.specs.Atan.{firstQuadrant, signedAnswer, atanNormWord, atanWord}
+use Rattle.soft.proofs.Classes.{operated}
 use Rattle.soft.specs.Words.{addWord, subWord, mulWord, divWord, oneNan, soft}
 
 -- a number of the first engine and its word
@@ -27,21 +28,24 @@ pub record Same (x : Float) (w : ℕ) : Type 0 where
 read : (x : Float) (w : ℕ) → Same x w → ofBits binary32 w ≡ x
 read x w s = ap (ofBits binary32) (sym (s .is)) ∙ ofBits-toBits binary32 x (s .held)
 
+same-by : (op : Float → Float → Float) (x y : Float) (u v : ℕ) → T (fits binary32 (op x y)) → Same x u → Same y v → Same (op x y) (toBits binary32 (op (ofBits binary32 u) (ofBits binary32 v)))
+same-by op x y u v h p q = record { held = h; is = sym (operated binary32 op u v x y (op x y) (read x u p) (read y v q) refl) }
+
 pub same-add : (x y : Float) (u v : ℕ) → Same x u → Same y v → Same (add binary32 x y) (addWord binary32 u v)
 unfolding addWord
-same-add x y u v p q = record { held = add-fits binary32 x y; is = sym (rw (read x u p, read y v q)) }
+same-add x y u v p q = same-by (add binary32) x y u v (add-fits binary32 x y) p q
 
 pub same-sub : (x y : Float) (u v : ℕ) → Same x u → Same y v → Same (sub binary32 x y) (subWord binary32 u v)
 unfolding subWord
-same-sub x y u v p q = record { held = sub-fits binary32 x y; is = sym (rw (read x u p, read y v q)) }
+same-sub x y u v p q = same-by (sub binary32) x y u v (sub-fits binary32 x y) p q
 
 pub same-mul : (x y : Float) (u v : ℕ) → Same x u → Same y v → Same (mul binary32 x y) (mulWord binary32 u v)
 unfolding mulWord
-same-mul x y u v p q = record { held = mul-fits binary32 x y; is = sym (rw (read x u p, read y v q)) }
+same-mul x y u v p q = same-by (mul binary32) x y u v (mul-fits binary32 x y) p q
 
 pub same-div : (x y : Float) (u v : ℕ) → Same x u → Same y v → Same (div binary32 x y) (divWord binary32 u v)
 unfolding divWord
-same-div x y u v p q = record { held = div-fits binary32 x y; is = sym (rw (read x u p, read y v q)) }
+same-div x y u v p q = same-by (div binary32) x y u v (div-fits binary32 x y) p q
 
 not-nan : (w : ℕ) → nanBits binary32 w ≡ false → T (not (isNan (ofBits binary32 w)))
 not-nan w n = subst (λ (b : Bool). T (not b)) (sym n ∙ nanBits-is binary32 w) tt

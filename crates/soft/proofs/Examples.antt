@@ -8,8 +8,7 @@ use mathlib.Core.Path.{_≡_, refl}
 use lib.Dec.{lit<}
 use lib.Ieee.{binary32, add, sub, mul, div, sum, neg, round, units, nanBits, ofBits, toBits}
 use Rattle.float.proofs.Rows.{Row, _gives_, agree}
-use Rattle.soft.specs.Rounding.{past, Rounded}
-use Rattle.soft.specs.Operations.{infinity}
+use Rattle.soft.specs.Rounding.{infinity, past, Rounded}
 use Rattle.soft.specs.Words.{addWord, subWord, mulWord, divWord, oneNan}
 use Rattle.soft.specs.Digits.{digitsOf, placesOf, nearestWord, scaledWord}
 use Rattle.soft.proofs.Correct.{rounded-only}

@@ -6,6 +6,7 @@ pub mod Past
 pub mod Classes
 pub mod Correct
 pub mod Scaled
+pub mod Leading
 pub mod Shifted
 pub mod Digits
 pub mod Values

@@ -1,10 +1,10 @@
 -- The product of two words is what IEEE 754 says of it, by the definition over whole numbers, and there is one such word. Assumes nothing.
-use Prim.Native.Nat.{ℕ, _*_, _^_, _<_, zero-le}
-use native.Mathlib.Nat.{lt-irrefl, eq-or-lt-of-le}
+use Prim.Native.Nat.{ℕ, _*_, _^_, zero-le}
+use native.Mathlib.Nat.{eq-or-lt-of-le}
 use mathlib.Core.Path.{_≡_, refl, sym, ap, subst, _∙_}
 use mathlib.Core.Logic.{inl, inr}
 use mathlib.Core.Bool.{Bool, true, false, cond, true≢false}
-use borrow.Author.Tests.{eq-eqb, ne-eqb}
+use borrow.Author.Tests.{eq-eqb}
 use lib.Dec.{eqb}
 use lib.Pow.{pow-pos}
 use lib.Ieee.{Format, Float, nan, inf, low, unlike, mul, ofBits, toBits}
@@ -12,11 +12,11 @@ use Rattle.format.specs.Fields.{negative, magnitude}
 use Rattle.format.specs.Value.{units, Finite}
 use Rattle.format.proofs.Nan.{nan-read, nan-written, finite-number}
 use Rattle.format.proofs.Value.{word-value}
-use Rattle.soft.specs.Rounding.{Rounded}
-use Rattle.soft.specs.Operations.{Infinite, NonZero, infinity, Multiplies}
+use Rattle.soft.specs.Rounding.{infinity, Rounded}
+use Rattle.soft.specs.Operations.{Infinite, NonZero, Multiplies}
 use Rattle.soft.specs.Words.{mulWord}
 use Rattle.soft.specs.Digits.{nearestWord}
-use Rattle.soft.proofs.Classes.{inf-is, zero-units, zero-finite, units-pos, inf-written, inf-nonzero, class-of, Class, a-nan, an-inf, a-number}
+use Rattle.soft.proofs.Classes.{not-zero, operated, inf-is, zero-units, zero-finite, inf-written, inf-nonzero, class-of, Class, a-nan, an-inf, a-number}
 use Rattle.soft.proofs.Correct.{round-word-rounded, rounded-one}
 use Rattle.soft.proofs.Rounded.{product-of-words}
 use Rattle.soft.proofs.Values.{mul-nan-first, mul-nan-second, mul-inf-first, mul-inf-second, mul-inf-inf}
@@ -27,7 +27,7 @@ module _ (f : Format) (a b : ℕ) where
 
   at : (x y z : Float) → ofBits f a ≡ x → ofBits f b ≡ y → mul f x y ≡ z → mulWord f a b ≡ toBits f z
   unfolding mulWord
-  at x y z p q e = ap (toBits f) (ap (λ (w : Float). mul f w (ofBits f b)) p ∙ ap (mul f x) q ∙ e)
+  at x y z p q e = operated f (mul f) a b x y z p q e
 
   pub mul-finite : Finite f a → Finite f b → mulWord f a b ≡ nearestWord f s (units f a * units f b) (2 ^ low f)
   unfolding mulWord nearestWord
@@ -39,21 +39,18 @@ module _ (f : Format) (a b : ℕ) where
   zero-second : Infinite f b → (x : Bool) → eqb (units f a) 0 ≡ x → Finite f a → mulWord f a b ≡ toBits f (cond x nan (inf s))
   zero-second h x e k = at (ofBits f a) (inf (negative f b)) (cond x nan (inf s)) refl (inf-is f b h) (mul-inf-second f (negative f a) (negative f b) (ofBits f a) (units f a) (2 ^ low f) (pow-pos (low f)) (word-value f a k) ∙ ap (λ (z : Bool). cond z nan (inf s)) e)
 
-  not-zero : (w : ℕ) → 0 < magnitude f w → eqb (units f w) 0 ≡ false
-  not-zero w p = ne-eqb (units f w) 0 (λ (e : units f w ≡ 0). lt-irrefl 0 (subst (λ (z : ℕ). 0 < z) e (units-pos f w p)))
-
   both : Infinite f a → Infinite f b → mulWord f a b ≡ infinity f s
   both h k = at (inf (negative f a)) (inf (negative f b)) (inf s) (inf-is f a h) (inf-is f b k) (mul-inf-inf f (negative f a) (negative f b)) ∙ inf-written f s
 
   first : Infinite f a → NonZero f b → Class f b → mulWord f a b ≡ infinity f s
   first h k (a-nan n) = absurd (true≢false (sym n ∙ k .1))
   first h k (an-inf i) = both h i
-  first h k (a-number d) = zero-first h false (not-zero b (k .0)) d ∙ inf-written f s
+  first h k (a-number d) = zero-first h false (not-zero f b (k .0)) d ∙ inf-written f s
 
   second : NonZero f a → Infinite f b → Class f a → mulWord f a b ≡ infinity f s
   second h k (a-nan n) = absurd (true≢false (sym n ∙ h .1))
   second h k (an-inf i) = both i k
-  second h k (a-number d) = zero-second k false (not-zero a (h .0)) d ∙ inf-written f s
+  second h k (a-number d) = zero-second k false (not-zero f a (h .0)) d ∙ inf-written f s
 
   pub mul-multiplies : Multiplies f a b (mulWord f a b)
   mul-multiplies = record {

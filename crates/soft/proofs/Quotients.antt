@@ -1,13 +1,13 @@
 -- The division of digits that the code does, and what is left over, against the exact quotient of two words. Assumes nothing.
 use Prim.Native.Nat.{ℕ, zero, suc, _+_, _-_, _*_, _/_, _%_, _^_, _≤_, _<_}
-use native.Mathlib.Nat.{le-trans, le-of-eq, le-of-lt, lt-of-lt-of-le, lt-of-le-of-lt, lt-of-not-le, not-le-of-lt, lt-irrefl, mul-comm, mul-assoc, mul-pos, mul-le-mul-right, mul-le-mul-left, mul-lt-mul-of-pos-right, mod-eq-of-lt, le-div-iff-mul-le, zero-mul, div-le-self, div-mul-le-self, lt-div-mul-add, mul-div-cancel}
+use native.Mathlib.Nat.{le-trans, le-of-eq, le-of-lt, lt-of-lt-of-le, lt-of-le-of-lt, lt-irrefl, mul-comm, mul-assoc, mul-pos, mul-le-mul-left, mul-lt-mul-of-pos-right, le-div-iff-mul-le, zero-mul, div-le-self, div-mul-le-self, lt-div-mul-add, mul-div-cancel}
 use native.Mathlib.Omega.{arith}
 use mathlib.Core.Path.{_≡_, refl, sym, ap, subst, _∙_}
 use mathlib.Core.Bool.{Bool}
 use lib.Arith.{lt-of-le-ne}
 use lib.Dec.{lit<, lit≤}
-use lib.Pow.{pow-pos, pow-add, pow-mono}
-use lib.Count.{leadingZeros, leading-top}
+use lib.Pow.{pow-pos, pow-add}
+use lib.Count.{leadingZeros}
 use lib.Ieee.{binary32, low, unlike}
 use Rattle.format.specs.Fields.{negative, magnitude, signBit}
 use Rattle.format.specs.Value.{units, Finite}
@@ -16,6 +16,7 @@ use Rattle.soft.specs.Digits.{nearestWord, scaledWord, digitsOf, placesO
 use Rattle.soft.proofs.Classes.{units-pos}
 use Rattle.soft.proofs.Digits.{units-digits, small-digits, small-places}
 use Rattle.soft.proofs.Divide.{div-finite}
+use Rattle.soft.proofs.Leading.{leads, led}
 use Rattle.soft.proofs.Scaled.{round-equal, round-beside}
 use Rattle.soft.proofs.Shifted.{above-zero, zero-round}
 
@@ -34,15 +35,8 @@ pub record Lead (x : ℕ) : Type 0 where
 
 pub lead-is : (x : ℕ) → (x ≡ 0 → ⊥) → x < 2 ^ 24 → Lead x
 lead-is x nz h =
-    let t = leading-top 64 x (above-zero x nz) (lt-of-lt-of-le h (lit≤ tt)) in
-    let j = t .0 in
-    let free = freeOf x in
-    let a : j < 24 = lt-of-not-le (λ (g : 24 ≤ j). not-le-of-lt h (le-trans (pow-mono g) (t .2))) in
-    let s : free + suc j ≡ 62 = omega (arith, t .1, a) in
-    let hi : x * 2 ^ free < 2 ^ 62 = subst (λ (z : ℕ). x * 2 ^ free < z) (mul-comm (2 ^ suc j) (2 ^ free) ∙ sym (pow-add 2 free (suc j)) ∙ ap (λ (z : ℕ). 2 ^ z) s) (mul-lt-mul-of-pos-right (t .3) (pow-pos free)) in
-    let lo : 2 ^ 61 ≤ x * 2 ^ free = subst (λ (z : ℕ). z ≤ x * 2 ^ free) (mul-comm (2 ^ j) (2 ^ free) ∙ sym (pow-add 2 free j) ∙ ap (λ (z : ℕ). 2 ^ z) (let e : free + j ≡ 61 = omega (arith, s) in e)) (mul-le-mul-right (2 ^ free) (t .2)) in
-    let e : fullOf x ≡ x * 2 ^ free = mod-eq-of-lt (lt-of-lt-of-le hi (lit≤ tt)) in
-    record { some = omega (arith, t .1, a); few = omega (arith, s); exact = e; low = rw e lo; high = rw e hi }
+    let l = led 2 61 x refl (above-zero x nz) (lt-of-lt-of-le h (lit≤ tt)) in
+    record { some = omega (arith, leads x 24 (above-zero x nz) h (lit≤ tt)); few = l .few; exact = l .exact; low = rw (l .exact) (l .low); high = rw (l .exact) (l .high) }
 
 module _ (a b x y p q : ℕ) (hx : x ≡ digitsOf binary32 a) (hy : y ≡ digitsOf binary32 b) (hp : p ≡ placesOf binary32 a) (hq : q ≡ placesOf binary32 b) where
   pub divisor-pos : 0 < magnitude binary32 b → 0 < y

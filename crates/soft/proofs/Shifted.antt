@@ -1,14 +1,13 @@
 -- What the code's shifts are over whole numbers: a number moved up to 63 digits, what a shift down keeps, and the word of both. Assumes nothing.
 use Prim.Native.Nat.{ℕ, zero, suc, _+_, _-_, _*_, _/_, _%_, _^_, _≤_, _<_, compare, Ordering, Ordering·lt, Ordering·eq, Ordering·gt}
-use native.Mathlib.Nat.{le-trans, le-of-eq, lt-of-lt-of-le, lt-of-le-of-lt, lt-of-not-le, not-le-of-lt, mul-comm, mul-assoc, mul-le-mul-right, mul-lt-mul-of-pos-right, mod-eq-of-lt, mod-lt, div-lt-iff-lt-mul, div-eq-of-lt, mul-pos, one-mul, zero-mul, zero-add, add-zero}
+use native.Mathlib.Nat.{le-trans, le-of-eq, lt-of-lt-of-le, lt-of-le-of-lt, mul-comm, mul-assoc, mul-le-mul-right, mod-eq-of-lt, mod-lt, div-lt-iff-lt-mul, div-eq-of-lt, mul-pos, one-mul, zero-mul, zero-add, add-zero}
 use native.Mathlib.Omega.{arith}
 use mathlib.Core.Path.{_≡_, refl, sym, ap, subst, _∙_}
-use mathlib.Core.Bool.{Bool}
+use mathlib.Core.Bool.{Bool, true, false}
 use lib.Dec.{lit<, lit≤}
 use lib.Bits.{bitAnd, and-mask}
 use lib.Pow.{pow-pos, pow-add, pow-mono, shl-exact}
-use lib.Count.{leadingZeros, leading-top}
-use mathlib.Core.Bool.{true, false}
+use lib.Count.{leadingZeros}
 use lib.Ieee.{Format, binary32, low, hid, nearest, round, toBits}
 use lib.Ieee.Nearest.{closest}
 use lib.Ieee.Fits.{nearest-le}
@@ -17,6 +16,7 @@ use Rattle.format.specs.Fields.{signBit, infWord}
 use Rattle.format.proofs.Same.{round-nothing}
 use Rattle.soft.specs.Digits.{nearestWord, scaledWord}
 use Rattle.soft.proofs.Classes.{zero-written}
+use Rattle.soft.proofs.Leading.{Led, led}
 use Rattle.soft.proofs.Nearest.{Cmp, cmp}
 use Rattle.soft.proofs.Scaled.{round-inside, round-outside, scaled-drop, scaled-kept}
 
@@ -62,39 +62,6 @@ module _ (x u : ℕ) (U : 0 < u) where
       go Ordering·lt i = absurd (let z : ⊥ = omega (arith, i, h, l) in z)
       go Ordering·eq i = refl
       go Ordering·gt i = absurd (let z : ⊥ = omega (arith, i, k, l) in z)
-
--- ---- moved up to 63 digits
-
-pub record Full (m at free : ℕ) : Type 0 where
-  pub few : free ≤ 62
-  pub exact : m * 2 ^ free % 2 ^ 64 ≡ m * 2 ^ free
-  pub low : 2 ^ 62 ≤ m * 2 ^ free
-  pub high : m * 2 ^ free < 2 ^ 63
-  pub moved : m * 2 ^ free * 2 ^ (at - free) ≡ m * 2 ^ at
-
-pub lead-pos : (m : ℕ) → 0 < m → m < 2 ^ 63 → 1 ≤ leadingZeros 64 m
-lead-pos m P h =
-    let t = leading-top 64 m P (lt-of-lt-of-le h (lit≤ tt)) in
-    let j = t .0 in
-    let a : j < 63 = lt-of-not-le (λ (g : 63 ≤ j). not-le-of-lt h (le-trans (pow-mono g) (t .2))) in
-    omega (arith, t .1, a)
-
-pub full-is : (m at : ℕ) → 0 < m → m < 2 ^ 63 → 62 ≤ at → Full m at (leadingZeros 64 m - 1)
-full-is m at P h A =
-    let t = leading-top 64 m P (lt-of-lt-of-le h (lit≤ tt)) in
-    let j = t .0 in
-    let free = leadingZeros 64 m - 1 in
-    let l = lead-pos m P h in
-    let s : free + suc j ≡ 63 = omega (arith, t .1, l) in
-    let hi : m * 2 ^ free < 2 ^ 63 = subst (λ (z : ℕ). m * 2 ^ free < z) (mul-comm (2 ^ suc j) (2 ^ free) ∙ sym (pow-add 2 free (suc j)) ∙ ap (λ (z : ℕ). 2 ^ z) s) (mul-lt-mul-of-pos-right (t .3) (pow-pos free)) in
-    let lo : 2 ^ 62 ≤ m * 2 ^ free = subst (λ (z : ℕ). z ≤ m * 2 ^ free) (mul-comm (2 ^ j) (2 ^ free) ∙ sym (pow-add 2 free j) ∙ ap (λ (z : ℕ). 2 ^ z) (let e : free + j ≡ 62 = omega (arith, s) in e)) (mul-le-mul-right (2 ^ free) (t .2)) in
-    record {
-      few = omega (arith, s);
-      exact = mod-eq-of-lt (lt-of-lt-of-le hi (lit≤ tt));
-      low = lo;
-      high = hi;
-      moved = mul-assoc m (2 ^ free) (2 ^ (at - free)) ∙ ap (λ (z : ℕ). m * z) (sym (pow-add 2 free (at - free)) ∙ ap (λ (z : ℕ). 2 ^ z) (let e : free + (at - free) ≡ at = omega (arith, s, A) in e));
-    }
 
 -- ---- the word of a number of 63 digits
 
@@ -158,6 +125,9 @@ pub scaled-zero : (s : Bool) (m at : ℕ) → m ≡ 0 → scaledWord binary32 s 
 unfolding scaledWord
 scaled-zero s m at e = zero-round binary32 s (m * 2 ^ at) (2 ^ 300) (pow-pos 300) (ap (λ (z : ℕ). z * 2 ^ at) e ∙ zero-mul (2 ^ at))
 
+back : (z : ℕ) → z ≤ 261 → 300 - z + z ≡ 300
+back z h = omega arith
+
 abbrev pub freeOf : ℕ → ℕ
 freeOf m = leadingZeros 64 m - 1
 
@@ -165,8 +135,8 @@ abbrev pub fullOf : ℕ → ℕ
 fullOf m = m * 2 ^ freeOf m % 2 ^ 64
 
 module _ (s : Bool) (m at : ℕ) (P : (m ≡ 0 → ⊥)) (M : m < 2 ^ 63) (A : 62 ≤ at) where
-  full : Full m at (freeOf m)
-  full = full-is m at (above-zero m P) M A
+  full : Led 62 m (freeOf m)
+  full = led 1 62 m refl (above-zero m P) M
 
   pub free-le : freeOf m ≤ 62
   free-le = full .few
@@ -180,26 +150,25 @@ module _ (s : Bool) (m at : ℕ) (P : (m ≡ 0 → ⊥)) (M : m < 2 ^ 63) (A : 6
   pub small : (count r : ℕ) → 39 ≤ count → r ≡ closest (fullOf m) (2 ^ count) → r ≤ 2 ^ 24
   small count r C e = rw e (closest-le (fullOf m) low-full high-full count C)
 
+  moved : m * 2 ^ freeOf m * 2 ^ (at - freeOf m) ≡ m * 2 ^ at
+  moved =
+      mul-assoc m (2 ^ freeOf m) (2 ^ (at - freeOf m))
+      ∙ ap (λ (z : ℕ). m * z) (sym (pow-add 2 (freeOf m) (at - freeOf m)) ∙ ap (λ (z : ℕ). 2 ^ z) (let e : freeOf m + (at - freeOf m) ≡ at = omega (arith, free-le, A) in e))
+
   same-scaled : nearestWord binary32 s (fullOf m * 2 ^ (at - freeOf m)) (2 ^ 300) ≡ scaledWord binary32 s m at
   unfolding scaledWord
-  same-scaled = ap (λ (n : ℕ). nearestWord binary32 s n (2 ^ 300)) (ap (λ (z : ℕ). z * 2 ^ (at - freeOf m)) (full .exact) ∙ full .moved)
+  same-scaled = ap (λ (n : ℕ). nearestWord binary32 s n (2 ^ 300)) (ap (λ (z : ℕ). z * 2 ^ (at - freeOf m)) (full .exact) ∙ moved)
 
   pub scaled-none : (b : ℕ) → b ≡ signBit binary32 s → at - freeOf m ≤ 261 → 63 < 300 - (at - freeOf m) → b ≡ scaledWord binary32 s m at
   scaled-none b e h c =
       e
       ∙ sym (no-word (fullOf m) low-full high-full s (at - freeOf m) (300 - (at - freeOf m)) 300 (back (at - freeOf m) h) (le-trans (lit≤ tt) c) c)
       ∙ same-scaled
-    where
-      back : (z : ℕ) → z ≤ 261 → 300 - z + z ≡ 300
-      back z h = omega arith
 
   pub scaled-low : (b r : ℕ) → b ≡ signBit binary32 s → at - freeOf m ≤ 261 → r ≡ closest (fullOf m) (2 ^ (300 - (at - freeOf m))) → b + r ≡ scaledWord binary32 s m at
   scaled-low b r e h i =
       rw (e, i) (sym (low-word (fullOf m) low-full high-full s (at - freeOf m) (300 - (at - freeOf m)) 300 (back (at - freeOf m) h) (more (at - freeOf m) h)) ∙ same-scaled)
     where
-      back : (z : ℕ) → z ≤ 261 → 300 - z + z ≡ 300
-      back z h = omega arith
-
       more : (z : ℕ) → z ≤ 261 → 39 ≤ 300 - z
       more z h = omega arith
 

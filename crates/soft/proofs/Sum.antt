@@ -19,7 +19,7 @@ use Rattle.soft.specs.Rounding.{Rounded}
 use Rattle.soft.specs.Operations.{Infinite, Adds, Subtracts}
 use Rattle.soft.specs.Words.{addWord, subWord}
 use Rattle.soft.specs.Digits.{nearestWord}
-use Rattle.soft.proofs.Classes.{inf-is, inf-written, class-of, Class, a-nan, an-inf, a-number}
+use Rattle.soft.proofs.Classes.{operated, inf-is, inf-written, class-of, Class, a-nan, an-inf, a-number}
 use lib.Arith.{lt-of-le-ne}
 use Rattle.sizes.proofs.Words.{units-mono, units-strict}
 use Rattle.soft.proofs.Correct.{round-word-rounded, rounded-one}
@@ -80,7 +80,7 @@ module _ (f : Format) (a b : ℕ) where
 
   at : (v w z : Float) → ofBits f a ≡ v → ofBits f b ≡ w → add f v w ≡ z → addWord f a b ≡ toBits f z
   unfolding addWord
-  at v w z p q e = ap (toBits f) (ap (λ (u : Float). add f u (ofBits f b)) p ∙ ap (add f v) q ∙ e)
+  at v w z p q e = operated f (add f) a b v w z p q e
 
   over-one : (s : Bool) (n : ℕ) → toBits f (round f s n (2 ^ low f)) ≡ nearestWord f s n 1
   unfolding nearestWord

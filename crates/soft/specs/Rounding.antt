@@ -14,6 +14,9 @@ apart a b = (a - b) + (b - a)
 unfoldable pub past : Format → ℕ
 past f = (2 ^ suc (prec f) - 1) * 2 ^ (emax f + low f - prec f)
 
+abbrev pub infinity : Format → Bool → ℕ
+infinity f s = signBit f s + infWord f
+
 -- The number n / d, d above 0, counted in units of the format's smallest value and with the sign s, is rounded to the word r.
 pub record Rounded (f : Format) (s : Bool) (n d r : ℕ) : Type 0 where
   pub word : r < 2 * top f
@@ -21,4 +24,4 @@ pub record Rounded (f : Format) (s : Bool) (n d r : ℕ) : Type 0 where
   pub finite : n < past f * d → Finite f r
   pub nearest : n < past f * d → (v : ℕ) → Finite f v → apart (units f r * d) n ≤ apart (units f v * d) n
   pub even : n < past f * d → (v : ℕ) → Finite f v → (units f v ≡ units f r → ⊥) → apart (units f r * d) n ≡ apart (units f v * d) n → r % 2 ≡ 0
-  pub outside : past f * d ≤ n → r ≡ signBit f s + infWord f
+  pub outside : past f * d ≤ n → r ≡ infinity f s

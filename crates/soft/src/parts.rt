@@ -1,10 +1,10 @@
 // What a word is made of.
 ghost use mathlib.Core.Path.{_≡_};
-ghost use Prim.Native.Nat.{_+_};
 ghost use lib.Dec.{eqb};
 ghost use lib.Ieee.{binary32, unlike};
 ghost use Rattle.format.specs.Fields.{negative, magnitude, signBit, infWord};
 ghost use Rattle.soft.specs.Digits.{digitsOf, placesOf};
+ghost use Rattle.soft.specs.Rounding.{infinity};
 use float::F32;
 
 // The digits of a finite word, the leading one with them where the exponent field is not 0.
@@ -62,7 +62,7 @@ pub(crate) fn is_zero(w: u32) -> bool
 }
 
 pub(crate) fn infinity(sign: bool) -> u32
-    ensures { λ r. ⌜ r ≡ signBit binary32 sign + infWord binary32 ⌝ }
+    ensures { λ r. ⌜ r ≡ infinity binary32 sign ⌝ }
 {
     if sign {
         return F32::SIGN_MASK + F32::EXPONENT_MASK;

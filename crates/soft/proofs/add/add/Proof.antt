@@ -1,12 +1,12 @@
 -- `soft::add::add` meets its contract, by the classes of its words. Assumes nothing.
 use borrow.Author.Needs.{needs}
 use borrow.Author.Tests.{eqb-true, eqb-false}
-use Prim.Native.Nat.{ℕ, _+_}
+use Prim.Native.Nat.{ℕ}
 use mathlib.Core.Path.{_≡_, sym, ap, subst, _∙_}
-use mathlib.Core.Bool.{Bool, false}
+use mathlib.Core.Bool.{false}
 use lib.Ieee.{binary32, nanBits}
-use Rattle.format.specs.Fields.{signBit, infWord}
 use Rattle.format.specs.Value.{Finite}
+use Rattle.soft.specs.Rounding.{infinity}
 use Rattle.soft.specs.Operations.{Adds, Infinite}
 use Rattle.soft.specs.Words.{addWord}
 use Rattle.soft.proofs.Classes.{finite-else}
@@ -37,9 +37,6 @@ b-finite-too c = finite-else binary32 _ (b-number (c .before .before .before .be
 a-finite : (c : tie.Else3) → Finite binary32 (c .before .before .before .before .before .before .args .a)
 a-finite c = finite-else binary32 _ (a-number (c .before .before)) (eqb-false _ _ (sym (c .before .is-infinite .ensures) ∙ c .if3 .left))
 
-signed : (s t : Bool) → s ≡ t → signBit binary32 s + infWord binary32 ≡ signBit binary32 t + infWord binary32
-signed s t e = ap (λ (s : Bool). signBit binary32 s + infWord binary32) e
-
 pub add-spec : {M : Type 1} → statement M
 add-spec =
     let met =
@@ -67,14 +64,14 @@ add-spec =
     let j = d .before .before in
     let t = j .before .before in
     let s = t .before .before .before .before .before .before .args in
-    both (s .a) (s .b) _ (c .infinity .ensures ∙ signed _ _ (c .before .is-sign-negative .ensures) ∙ sym (add-adds binary32 (s .a) (s .b) .like-infinite (a-infinite t) (b-infinite j) (signs-like _ _ (sym (d .before .signs-differ .ensures) ∙ d .if5 .left)))))
+    both (s .a) (s .b) _ (c .infinity .ensures ∙ ap (infinity binary32) (c .before .is-sign-negative .ensures) ∙ sym (add-adds binary32 (s .a) (s .b) .like-infinite (a-infinite t) (b-infinite j) (signs-like _ _ (sym (d .before .signs-differ .ensures) ∙ d .if5 .left)))))
     (λ c κs. search needs)
     (λ c κs. search needs)
     (λ c.
     let e = c .before .before in
     let t = e .before .before in
     let s = t .before .before .before .before .before .before .args in
-    both (s .a) (s .b) _ (c .infinity2 .ensures ∙ signed _ _ (c .before .is-sign-negative2 .ensures) ∙ sym (add-adds binary32 (s .a) (s .b) .infinite-finite (a-infinite t) (b-finite-too e))))
+    both (s .a) (s .b) _ (c .infinity2 .ensures ∙ ap (infinity binary32) (c .before .is-sign-negative2 .ensures) ∙ sym (add-adds binary32 (s .a) (s .b) .infinite-finite (a-infinite t) (b-finite-too e))))
     (λ c κs. search needs)
     (λ c κs. search needs)
     (λ c κs. search needs)
@@ -82,7 +79,7 @@ add-spec =
     let t = c .before .before in
     let e = t .before .before in
     let s = e .before .before .before .before .before .before .args in
-    both (s .a) (s .b) _ (c .infinity3 .ensures ∙ signed _ _ (c .before .is-sign-negative3 .ensures) ∙ sym (add-adds binary32 (s .a) (s .b) .finite-infinite (a-finite e) (eqb-true _ _ (sym (t .before .is-infinite3 .ensures) ∙ t .if6 .taken)))))
+    both (s .a) (s .b) _ (c .infinity3 .ensures ∙ ap (infinity binary32) (c .before .is-sign-negative3 .ensures) ∙ sym (add-adds binary32 (s .a) (s .b) .finite-infinite (a-finite e) (eqb-true _ _ (sym (t .before .is-infinite3 .ensures) ∙ t .if6 .taken)))))
     (λ c κs. (a-finite (c .before .before), finite-else binary32 _ (b-number (c .before .before .before .before)) (eqb-false _ _ (sym (c .before .is-infinite3 .ensures) ∙ c .if6 .left))))
     (λ c. both _ _ _ (c .sum .ensures)) in
     tie.close met

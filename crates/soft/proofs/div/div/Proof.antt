@@ -1,12 +1,13 @@
 -- `soft::div::div` meets its contract, by the classes of its words. Assumes nothing.
 use borrow.Author.Needs.{needs}
 use borrow.Author.Tests.{eqb-true, eqb-false}
-use Prim.Native.Nat.{ℕ, _+_}
+use Prim.Native.Nat.{ℕ}
 use mathlib.Core.Path.{_≡_, sym, ap, subst, _∙_}
-use mathlib.Core.Bool.{Bool, false}
+use mathlib.Core.Bool.{false}
 use lib.Ieee.{binary32, nanBits}
-use Rattle.format.specs.Fields.{signBit, infWord}
+use Rattle.format.specs.Fields.{signBit}
 use Rattle.format.specs.Value.{Finite}
+use Rattle.soft.specs.Rounding.{infinity}
 use Rattle.soft.specs.Operations.{Divides, Infinite, Zero}
 use Rattle.soft.specs.Words.{divWord}
 use Rattle.soft.proofs.Classes.{finite-else}
@@ -44,9 +45,6 @@ b-zero c = eqb-true _ _ (sym (c .before .is-zero .ensures) ∙ c .if6 .taken)
 a-zero : (c : tie.Then7) → Zero binary32 (c .before .before .before .before .before .before .before .before .before .before .before .before .args .a)
 a-zero c = eqb-true _ _ (sym (c .before .is-zero2 .ensures) ∙ c .if7 .taken)
 
-signed : (s t : Bool) → s ≡ t → signBit binary32 s + infWord binary32 ≡ signBit binary32 t + infWord binary32
-signed s t e = ap (λ (s : Bool). signBit binary32 s + infWord binary32) e
-
 pub div-spec : {M : Type 1} → statement M
 div-spec =
     let met =
@@ -71,7 +69,7 @@ div-spec =
     let e = c .before .before in
     let t = e .before .before in
     let s = t .before .before .before .before .before .before .args in
-    both (s .a) (s .b) _ (c .infinity .ensures ∙ signed _ _ (c .before .signs-differ .ensures) ∙ sym (div-divides binary32 (s .a) (s .b) .infinite-finite (a-infinite t) (b-finite-too e))))
+    both (s .a) (s .b) _ (c .infinity .ensures ∙ ap (infinity binary32) (c .before .signs-differ .ensures) ∙ sym (div-divides binary32 (s .a) (s .b) .infinite-finite (a-infinite t) (b-finite-too e))))
     (λ c κs. search needs)
     (λ c κs. search needs)
     (λ c κs. search needs)
@@ -91,7 +89,7 @@ div-spec =
     let e = c .before .before in
     let t = e .before .before in
     let s = t .before .before .before .before .before .before .before .before .before .before .args in
-    both (s .a) (s .b) _ (c .infinity2 .ensures ∙ signed _ _ (c .before .signs-differ3 .ensures) ∙ sym (div-divides binary32 (s .a) (s .b) .by-zero (a-finite (t .before .before .before .before)) (above-zero _ (eqb-false _ _ (sym (e .before .is-zero2 .ensures) ∙ e .if7 .left))) (b-zero t))))
+    both (s .a) (s .b) _ (c .infinity2 .ensures ∙ ap (infinity binary32) (c .before .signs-differ3 .ensures) ∙ sym (div-divides binary32 (s .a) (s .b) .by-zero (a-finite (t .before .before .before .before)) (above-zero _ (eqb-false _ _ (sym (e .before .is-zero2 .ensures) ∙ e .if7 .left))) (b-zero t))))
     (λ c κs. (a-finite (c .before .before .before .before), b-finite (c .before .before), above-zero _ (eqb-false _ _ (sym (c .before .is-zero .ensures) ∙ c .if6 .left))))
     (λ c. both _ _ _ (c .quotient .ensures)) in
     tie.close met

@@ -1,12 +1,12 @@
 -- `soft::mul::mul` meets its contract, by the classes of its words. Assumes nothing.
 use borrow.Author.Needs.{needs}
 use borrow.Author.Tests.{eqb-true, eqb-false}
-use Prim.Native.Nat.{ℕ, _+_}
+use Prim.Native.Nat.{ℕ}
 use mathlib.Core.Path.{_≡_, sym, ap, subst, _∙_}
-use mathlib.Core.Bool.{Bool, false}
+use mathlib.Core.Bool.{false}
 use lib.Ieee.{binary32, nanBits}
-use Rattle.format.specs.Fields.{signBit, infWord}
 use Rattle.format.specs.Value.{Finite}
+use Rattle.soft.specs.Rounding.{infinity}
 use Rattle.soft.specs.Operations.{Multiplies, Infinite, NonZero}
 use Rattle.soft.specs.Words.{mulWord}
 use Rattle.soft.proofs.Classes.{finite-else, nonzero}
@@ -44,9 +44,6 @@ finite c =
       finite-else binary32 _ (b-number e) (eqb-false _ _ (sym (c .before .is-infinite2 .ensures) ∙ c .if5 .left)),
     )
 
-signed : (s t : Bool) → s ≡ t → signBit binary32 s + infWord binary32 ≡ signBit binary32 t + infWord binary32
-signed s t e = ap (λ (s : Bool). signBit binary32 s + infWord binary32) e
-
 pub mul-spec : {M : Type 1} → statement M
 mul-spec =
     let met =
@@ -71,7 +68,7 @@ mul-spec =
     let e = c .before .before in
     let t = e .before .before in
     let s = t .before .before .before .before .before .before .args in
-    both (s .a) (s .b) _ (c .infinity .ensures ∙ signed _ _ (c .before .signs-differ .ensures) ∙ sym (mul-multiplies binary32 (s .a) (s .b) .infinite-first (a-infinite t) (b-nonzero e))))
+    both (s .a) (s .b) _ (c .infinity .ensures ∙ ap (infinity binary32) (c .before .signs-differ .ensures) ∙ sym (mul-multiplies binary32 (s .a) (s .b) .infinite-first (a-infinite t) (b-nonzero e))))
     (λ c κs. search needs)
     (λ c κs. search needs)
     (λ c.
@@ -84,7 +81,7 @@ mul-spec =
     let e = c .before .before in
     let t = e .before .before in
     let s = t .before .before .before .before .before .before .before .before .args in
-    both (s .a) (s .b) _ (c .infinity2 .ensures ∙ signed _ _ (c .before .signs-differ2 .ensures) ∙ sym (mul-multiplies binary32 (s .a) (s .b) .infinite-second (a-nonzero e) (b-infinite t))))
+    both (s .a) (s .b) _ (c .infinity2 .ensures ∙ ap (infinity binary32) (c .before .signs-differ2 .ensures) ∙ sym (mul-multiplies binary32 (s .a) (s .b) .infinite-second (a-nonzero e) (b-infinite t))))
     (λ c κs. finite c)
     (λ c. both _ _ _ (c .product .ensures)) in
     tie.close met

@@ -5,8 +5,9 @@ use Prim.Native.Nat.{_≤_}
 use native.Mathlib.Nat.{le-trans, lt-of-le-of-lt}
 use native.Mathlib.Omega.{arith}
 use mathlib.Core.Path.{sym, _∙_}
-use lib.Dec.{lit<}
-use Rattle.soft.proofs.Shifted.{freeOf, above-zero, lead-pos, free-le, small, sign-small, scaled-zero, scaled-none, scaled-low, scaled-high, scaled-inf}
+use lib.Dec.{lit<, lit≤}
+use Rattle.soft.proofs.Leading.{leads}
+use Rattle.soft.proofs.Shifted.{freeOf, above-zero, free-le, small, sign-small, scaled-zero, scaled-none, scaled-low, scaled-high, scaled-inf}
 use Rattle.soft.proofs.rounding.rounded.Statement.{statement}
 use Rattle.soft.proofs.rounding.rounded.Tie as tie
 
@@ -32,7 +33,7 @@ rounded-spec =
     tie.spec
     (λ c κs. search needs)
     (λ c. c .before .sign-bit .ensures ∙ sym (scaled-zero (c .before .before .args .sign) (c .before .before .args .m) (c .before .before .args .at) (c .if1 .taken)))
-    (λ c. lead-pos (c .before .before .args .m) (above-zero _ (c .if1 .left)) (c .before .before .pre .0))
+    (λ c. let l = leads (c .before .before .args .m) 63 (above-zero _ (c .if1 .left)) (c .before .before .pre .0) (lit≤ tt) in omega (arith, l))
     (λ c. record { fits = lt-of-le-of-lt (shift c) (lit< tt) })
     (λ c. lt-of-le-of-lt (shift c) (lit< tt))
     (λ c. le-trans (shift c) (c .before .before .pre .1))
