@@ -189,6 +189,15 @@ impl Kernel {
         }
     }
 
+    /// The second word of a place in a strip, as the single call takes it: 0 where it is not used.
+    pub fn used(&self, b: u32) -> u32 {
+        if self.takes == Takes::One {
+            0
+        } else {
+            b
+        }
+    }
+
     /// The call with the words that it takes.
     pub fn asked(&self, a: u32, b: u32) -> String {
         let second = if self.takes == Takes::One { String::new() } else { format!(" {b:08x}") };

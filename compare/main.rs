@@ -9,6 +9,7 @@ mod grain;
 mod kernels;
 mod lines;
 mod marks;
+mod offsets;
 mod reader;
 mod recipe;
 mod recipe_lines;
@@ -24,6 +25,7 @@ mod soft_rows;
 mod speed;
 mod steps;
 mod strips;
+mod strips_speed;
 mod sweep;
 mod vectors;
 mod words;
@@ -56,18 +58,21 @@ enum Lines {
 struct Wanted {
     every: bool,
     speed: bool,
+    /// The table of strips, and no other time.
+    strips: bool,
     /// Operation numbers, and names of what has none; empty for all.
     only: Vec<String>,
     lines: Option<Lines>,
 }
 
 fn wanted() -> Result<Wanted, String> {
-    let mut wanted = Wanted { every: false, speed: false, only: Vec::new(), lines: None };
+    let mut wanted = Wanted { every: false, speed: false, strips: false, only: Vec::new(), lines: None };
     let mut args = std::env::args().skip(1);
     while let Some(arg) = args.next() {
         match arg.as_str() {
             "--every" => wanted.every = true,
             "--speed" => wanted.speed = true,
+            "--strips" => wanted.strips = true,
             "--only" => wanted.only.extend(args.next().unwrap_or_default().split(',').map(String::from)),
             "--read" => wanted.lines = Some(Lines::Read),
             "--vectors" => wanted.lines = Some(Lines::Vectors(args.next().unwrap_or_default())),
@@ -138,16 +143,27 @@ fn main() {
     if let Some(of) = &wanted.lines {
         exit(lines(of));
     }
-    let all = if wanted.speed { kernels::beside_the_crate() } else { kernels::all() };
-    let keys = [grain::KEY, recipes::KEY, soft::KEY];
+    let mut all = if wanted.speed || wanted.strips { kernels::beside_the_crate() } else { kernels::all() };
+    all.retain(|kernel| !wanted.strips || kernel.number().is_some());
+    // what is no kernel: strips are timed with each, and no other is timed with strips
+    let keys = match (wanted.strips, wanted.speed) {
+        (true, _) => vec![],
+        (_, true) => vec![grain::KEY, recipes::KEY, soft::KEY],
+        _ => vec![strips::KEY, grain::KEY, recipes::KEY, soft::KEY],
+    };
     if let Some(key) = wanted.only.iter().find(|key| !keys.contains(&key.as_str()) && !all.iter().any(|k| k.key() == **key)) {
         eprintln!("compare: nothing here has the number or name {key:?}");
         exit(2);
     }
     let wants = |kernel: &Kernel| wanted.only.is_empty() || wanted.only.contains(&kernel.key());
     let chosen: Vec<&Kernel> = all.iter().filter(|k| wants(k)).collect();
-    let [wants_grain, wants_recipes, wants_soft] = keys.map(|key| wanted.only.is_empty() || wanted.only.iter().any(|only| only == key));
+    let wants_key = |key: &str| wanted.only.is_empty() || wanted.only.iter().any(|only| only == key);
+    let [wants_strips, wants_grain, wants_recipes, wants_soft] = [strips::KEY, grain::KEY, recipes::KEY, soft::KEY].map(wants_key);
 
+    if wanted.strips {
+        println!("{}", strips_speed::heading());
+        return chosen.iter().filter_map(|kernel| strips_speed::rows(kernel)).flatten().for_each(|row| println!("{row}"));
+    }
     if wanted.speed {
         return measure(&all, &chosen, [wants_grain, wants_recipes, wants_soft]);
     }
@@ -165,9 +181,9 @@ fn main() {
     }
     if wanted.only.is_empty() {
         report("refusals of the call by number", refusals::refusals());
-        for (label, count) in strips::strips() {
-            report(label, count);
-        }
+    }
+    if wants_strips {
+        strips::strips(wanted.every, &mut report);
     }
     if wants_grain {
         for (label, count) in grain::grain(wanted.every) {

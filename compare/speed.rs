@@ -1,7 +1,7 @@
 //! How long a word takes, ours beside the crate's, over the same strip of words: by single calls, and by one call for the strip
 //! beside a loop of the crate's kernel. A guarded call has the raw one between. It measures and judges nothing.
 
-use crate::kernels::{strip, Kernel, Takes};
+use crate::kernels::{guarded, strip, Kernel, Takes};
 use crate::words::Random;
 use std::hint::black_box;
 use std::time::Instant;
@@ -42,7 +42,7 @@ pub fn singly<'a>(words: &'a [(u32, u32)], call: impl Fn(u32, u32) -> u64 + 'a) 
 }
 
 /// A turn that makes one call, with the first words, the second, and lists for answers and refusals.
-fn at_once<'a>(words: &[(u32, u32)], call: impl Fn(&[u32], &[u32], &mut [u32], &mut [u32]) + 'a) -> impl FnMut() + 'a {
+pub fn at_once<'a>(words: &[(u32, u32)], call: impl Fn(&[u32], &[u32], &mut [u32], &mut [u32]) + 'a) -> impl FnMut() + 'a {
     let (first, second): (Vec<u32>, Vec<u32>) = words.iter().copied().unzip();
     let (mut answers, mut refusals) = (vec![0; words.len()], vec![0; words.len()]);
     move || {
@@ -52,7 +52,7 @@ fn at_once<'a>(words: &[(u32, u32)], call: impl Fn(&[u32], &[u32], &mut [u32], &
 }
 
 /// A strip at once, where the kernel has a number: the crate's kernel in a loop, and the strip call for each form of ours.
-fn strips<'a>(kernel: &'a Kernel, forms: &[(&str, &'a Kernel)], words: &[(u32, u32)]) -> Vec<Side<'a>> {
+pub fn strips<'a>(kernel: &'a Kernel, forms: &[(&str, &'a Kernel)], words: &[(u32, u32)]) -> Vec<Side<'a>> {
     let theirs = |_| Side::new("the crate in a loop", true, at_once(words, |first, second, answers, _| (kernel.loops)(first, second, answers)));
     let ours = |&(name, form): &(&str, &Kernel)| {
         let op = form.number()?;
@@ -67,17 +67,23 @@ pub fn median(mut times: Vec<f64>) -> f64 {
     times[times.len() / 2]
 }
 
-/// The time of each side: the median of a turn's nanoseconds, divided so that the unit is this one, and with ours how many times
-/// that is of the last side before it that is not ours.
-pub fn timed(mut sides: Vec<Side>, turns: usize, divided: f64, unit: &str) -> String {
+/// A turn's nanoseconds in so many runs of each side, the sides in turn: a list for each side.
+pub fn times(sides: &mut [Side], turns: usize, runs: usize) -> Vec<Vec<f64>> {
     let mut times = vec![Vec::new(); sides.len()];
-    for _ in 0..RUNS {
+    for _ in 0..runs {
         for (side, times) in sides.iter_mut().zip(&mut times) {
             let start = Instant::now();
             (0..turns).for_each(|_| (side.turn)());
             times.push(start.elapsed().as_nanos() as f64 / turns as f64);
         }
     }
+    times
+}
+
+/// The time of each side: the median of a turn's nanoseconds, divided so that the unit is this one, and with ours how many times
+/// that is of the last side before it that is not ours.
+pub fn timed(mut sides: Vec<Side>, turns: usize, divided: f64, unit: &str) -> String {
+    let times = times(&mut sides, turns, RUNS);
     let mut theirs = 0.0;
     let told = sides.iter().zip(times).map(|(side, times)| {
         let time = median(times);
@@ -104,6 +110,11 @@ fn answered(kernel: &Kernel, length: usize) -> Vec<(u32, u32)> {
     let mut random = Random::new(7);
     let words = std::iter::repeat_with(|| usual(kernel.takes, &mut random));
     words.filter(|&(a, b)| !(kernel.skips)(a, b) && kernel.refusal(a, b) == 0).take(length).collect()
+}
+
+/// So many words that the guarded kernel of this name answers.
+pub fn clean(name: &str, length: usize) -> Vec<(u32, u32)> {
+    guarded().iter().find(|kernel| kernel.name == name).map_or(Vec::new(), |kernel| answered(kernel, length))
 }
 
 /// One line: the kernel, the crate's time for a call, ours, and how many times the crate's that is; then the same for a word of a

@@ -1,12 +1,16 @@
-//! The strip call: each place beside the single call and beside the crate, a strip beside its pieces, and what is refused as a
-//! whole.
+//! The strip call: each place beside the single call and beside the crate, a strip beside its pieces, what is refused as a whole,
+//! and each word at every offset of a block.
 
 use crate::edges;
 use crate::kernels::{all, strip, Kernel, Takes};
+use crate::offsets::offsets;
 use crate::refusals::numbers;
 use crate::steps;
 use crate::sweep::Count;
 use crate::words::{self, Random};
+
+/// What `--only` calls all of this.
+pub const KEY: &str = "strips";
 
 /// The lists that a strip call is lent, in order.
 const NAMES: [&str; 4] = ["first", "second", "answers", "refusals"];
@@ -14,7 +18,7 @@ const NAMES: [&str; 4] = ["first", "second", "answers", "refusals"];
 /// How many guard words stand before a list, and after it.
 const GUARDS: usize = 8;
 
-struct Lists {
+pub struct Lists {
     /// Each list with its guard words.
     lent: [Vec<u32>; 4],
     /// What they should hold.
@@ -26,7 +30,7 @@ struct Lists {
 impl Lists {
     /// Lists for the strip of these words, nothing written yet. A guard word, and one that is yet to be written, is a NaN of its
     /// own at each place.
-    fn new(words: &[(u32, u32)], twice: bool) -> Lists {
+    pub fn new(words: &[(u32, u32)], twice: bool) -> Lists {
         let unwritten: Vec<u32> = (0..words.len() + 2 * GUARDS).map(|place| 0xffa5_0000 ^ place as u32).collect();
         let mut lent = NAMES.map(|_| unwritten.clone());
         for (place, &(a, b)) in (GUARDS..).zip(words) {
@@ -42,7 +46,7 @@ impl Lists {
 
     /// Calls with so many words of each list, from a place on. Each place that it should give is a trial, and one more is the
     /// refusal of the whole with all that the lists then hold.
-    fn call(&mut self, count: &mut Count, op: u32, from: usize, lengths: [usize; 4], gives: Result<&[u64], u64>) {
+    pub fn call(&mut self, count: &mut Count, op: u32, from: usize, lengths: [usize; 4], gives: Result<&[u64], u64>) {
         // what an earlier call left wrong has been told
         self.lent.clone_from(&self.should);
         let places = gives.unwrap_or_default();
@@ -73,7 +77,7 @@ impl Lists {
 
 /// The strip in one call, each place beside the single call and, where runs do not skip it, beside the crate. Gives the places.
 fn whole([single, theirs]: [&mut Count; 2], op: u32, kernel: &Kernel, words: &[(u32, u32)], twice: bool) -> Vec<u64> {
-    let used = |&(a, b): &(u32, u32)| (a, if kernel.takes == Takes::One { 0 } else { b });
+    let used = |&(a, b): &(u32, u32)| (a, kernel.used(b));
     let gives: Vec<u64> = words.iter().map(used).map(|(a, b)| kernel.ours(a, b)).collect();
     let mut lists = Lists::new(words, twice);
     lists.call(single, op, 0, [words.len(); 4], Ok(&gives));
@@ -127,8 +131,8 @@ fn refused([lengths, unknown]: [&mut Count; 2], known: &[(u32, Kernel)]) {
     }
 }
 
-/// What is tried of strips, each count with its label.
-pub fn strips() -> [(&'static str, Count); 5] {
+/// Tries strips, and reports each count with its label; with `every`, each of the 2^32 words at every offset of a block.
+pub fn strips(every: bool, mut report: impl FnMut(&str, Count)) {
     let known: Vec<(u32, Kernel)> = all().into_iter().filter_map(|kernel| Some((kernel.number()?, kernel))).collect();
     let (edges, mut random) = (words::edges(), Random::new(7));
     let [mut single, mut theirs, mut cut, mut lengths, mut unknown] = <[Count; 5]>::default();
@@ -147,11 +151,10 @@ pub fn strips() -> [(&'static str, Count); 5] {
         }
     }
     refused([&mut lengths, &mut unknown], &known);
-    [
-        ("strips, each place beside the single call", single),
-        ("strips, each place beside the crate", theirs),
-        ("strips in pieces", cut),
-        ("strips of lists whose lengths do not agree", lengths),
-        ("strips of unknown operations", unknown),
-    ]
+    report("strips, each place beside the single call", single);
+    report("strips, each place beside the crate", theirs);
+    report("strips in pieces", cut);
+    report("strips of lists whose lengths do not agree", lengths);
+    report("strips of unknown operations", unknown);
+    offsets(every, &known, report);
 }

@@ -34,6 +34,12 @@ impl Random {
         within(self.word())
     }
 
+    /// A zero, a small number, an infinity or a NaN, of either sign.
+    pub fn special(&mut self) -> u32 {
+        let (sign, fraction) = (self.word() & 0x8000_0000, 1 + self.below(0x7f_ffff) as u32);
+        sign | self.one_of(&[0, fraction, 0x7f80_0000, 0x7f80_0000 | fraction])
+    }
+
     /// A word within four of one of the `ENDS`, of either sign, or any word.
     pub fn operand(&mut self) -> u32 {
         let (w, kind) = (self.word(), self.word());

@@ -1,5 +1,5 @@
 -- What belongs to no one function.
-mod Lists
+pub mod Lists
 pub mod Each
 mod Gives
 pub mod First

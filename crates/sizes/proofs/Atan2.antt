@@ -23,7 +23,7 @@ use Rattle.sizes.proofs.Quotient.{abs-not-negative, bottom, by-first, b
 
 -- ---- the steps after the quotient
 
-offset-finite : (y x : ℕ) → T (finite (ofInt binary32 (pos (offset y x))))
+pub offset-finite : (y x : ℕ) → T (finite (ofInt binary32 (pos (offset y x))))
 unfolding ofInt
 offset-finite y x = go (offset y x) (offset-one-of y x)
   where
@@ -32,7 +32,7 @@ offset-finite y x = go (offset y x) (offset-one-of y x)
     go n (inr (inl e)) = rw e tt
     go n (inr (inr e)) = rw e tt
 
-within-number : (q : Float) → isNan q ≡ false → isNan (withinHalf q) ≡ false
+pub within-number : (q : Float) → isNan q ≡ false → isNan (withinHalf q) ≡ false
 within-number q h = go (lt (ofBits binary32 0x4000_0000) q)
   where
     go : (b : Bool) → isNan (cond b (sub binary32 q (ofBits binary32 0x4080_0000)) q) ≡ false
@@ -76,7 +76,7 @@ module _ (y x : ℕ) (ym : magnitude binary32 y ≤ 0x5e80_0000) (xm : magnitude
       let n = add-at-most 0x7e00_0000 (abs-at-most (mul-fits binary32 _ _) middle-at-most) (mul-at-most 0x7d80_0000 y-at-most y-at-most tt) tt in
       div-number binary32 0x0380_0000 _ _ (n .finite) d (lit< tt)
 
-  ratio-number : (0x2180_0000 ≤ magnitude binary32 y) ⊎ (0x2180_0000 ≤ magnitude binary32 x) → isNan (ratio Y X) ≡ false
+  pub ratio-number : (0x2180_0000 ≤ magnitude binary32 y) ⊎ (0x2180_0000 ≤ magnitude binary32 x) → isNan (ratio Y X) ≡ false
   ratio-number (inl h) =
       let l = word-at-least binary32 y 0x2180_0000 (finite-number binary32 y (omega arith)) h in
       ratio-over (by-last x-square middle y-square (mul-at-least 0x0380_0000 l l tt) (lit< tt))

@@ -90,6 +90,14 @@ module _ (op a b : ℕ) (known : operandsIn op ≡ 0 → ⊥) where
     pub answered-place : op < 0x80 → refusalOf op a b ≡ 0 → (refusalAt op a b ≡ 0) × (wordAt op a b ≡ valueOf op a b)
     answered-place h e = alone (valueOf op a b) (value-word op a b a-lt b-lt) (rw (lt-leb 0x80 op h, e) (zero-add (valueOf op a b)))
 
+    -- a guarded operation's refusal, whatever it is
+    pub guarded-number : op < 0x80 → refusalAt op a b ≡ refusalOf op a b
+    guarded-number h = go (eqb (refusalOf op a b) 0) refl
+      where
+        go : (t : Bool) → eqb (refusalOf op a b) 0 ≡ t → refusalAt op a b ≡ refusalOf op a b
+        go true e = let z = eqb-true (refusalOf op a b) 0 e in answered-place h z .0 ∙ sym z
+        go false e = refused-place h (eqb-false (refusalOf op a b) 0 e) .0
+
     -- what a place shows, whatever the operation: no refusal, or one of the list with the zero word
     shown : (refusalAt op a b ≡ 0) ⊎ ((refusalAt op a b ≡ refusalOf op a b) × (wordAt op a b ≡ 0))
     shown = go (leb 0x80 op) refl (eqb (refusalOf op a b) 0) refl

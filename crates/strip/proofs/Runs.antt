@@ -85,11 +85,11 @@ module _ (op : ℕ) (h : operandsIn op ≡ 2 → ⊥) where
   unused : (b c : ℕ) → used (operandsIn op) b ≡ used (operandsIn op) c
   unused b c = rw (ne-eqb (operandsIn op) 2 h)
 
-  same-word : (a b c : ℕ) → wordAt op a b ≡ wordAt op a c
+  pub same-word : (a b c : ℕ) → wordAt op a b ≡ wordAt op a c
   unfolding wordAt
   same-word a b c = ap (λ (u : ℕ). wordsOf op a u % 2 ^ 32) (unused b c)
 
-  same-number : (a b c : ℕ) → refusalAt op a b ≡ refusalAt op a c
+  pub same-number : (a b c : ℕ) → refusalAt op a b ≡ refusalAt op a c
   unfolding refusalAt
   same-number a b c = ap (λ (u : ℕ). wordsOf op a u / 2 ^ 32) (unused b c)
 

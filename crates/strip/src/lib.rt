@@ -5,6 +5,14 @@ ghost use Rattle.frame.specs.Words.{kernelNumber};
 ghost use Rattle.strip.specs.Strip.{used, Fills, Agree, Strips};
 use frame::words;
 
+pub(crate) mod angle;
+pub(crate) mod atan;
+pub(crate) mod blocks;
+pub(crate) mod choice;
+pub(crate) mod cosine;
+pub(crate) mod hypot;
+pub(crate) mod quick;
+
 // Runs an operation, guarded or raw, over two lists of words and fills a list with the answers and
 // one with the refusals: 0 where the place is answered, and with a refusal the word is 0. What the
 // second list holds does not matter to an operation of one operand; powi's powers stand there in
@@ -46,7 +54,7 @@ fn fill_all(op: u32, first: &[u32], second: &[u32], answers: &mut [u32], refusal
         0x06 => fill_kernel(0x06, op, first, second, answers, refusals),
         0x07 => fill_kernel(0x07, op, first, second, answers, refusals),
         0x08 => fill_kernel(0x08, op, first, second, answers, refusals),
-        0x09 => fill_kernel(0x09, op, first, second, answers, refusals),
+        0x09 => blocks::fill_roots(op, first, second, answers, refusals),
         0x0a => fill_kernel(0x0a, op, first, second, answers, refusals),
         0x0b => fill_kernel(0x0b, op, first, second, answers, refusals),
         0x0c => fill_kernel(0x0c, op, first, second, answers, refusals),
@@ -54,11 +62,11 @@ fn fill_all(op: u32, first: &[u32], second: &[u32], answers: &mut [u32], refusal
         0x0e => fill_kernel(0x0e, op, first, second, answers, refusals),
         0x0f => fill_kernel(0x0f, op, first, second, answers, refusals),
         0x10 => fill_kernel(0x10, op, first, second, answers, refusals),
-        0x11 => fill_kernel(0x11, op, first, second, answers, refusals),
-        0x12 => fill_kernel(0x12, op, first, second, answers, refusals),
-        0x13 => fill_kernel(0x13, op, first, second, answers, refusals),
-        0x14 => fill_kernel(0x14, op, first, second, answers, refusals),
-        0x15 => fill_kernel(0x15, op, first, second, answers, refusals),
+        0x11 => blocks::fill(op, first, second, answers, refusals),
+        0x12 => blocks::fill(op, first, second, answers, refusals),
+        0x13 => blocks::fill(op, first, second, answers, refusals),
+        0x14 => blocks::fill(op, first, second, answers, refusals),
+        0x15 => blocks::fill(op, first, second, answers, refusals),
         0x16 => fill_kernel(0x16, op, first, second, answers, refusals),
         0x17 => fill_kernel(0x17, op, first, second, answers, refusals),
         0x18 => fill_kernel(0x18, op, first, second, answers, refusals),
@@ -88,7 +96,13 @@ fn fill_kernel(
 }
 
 // The same by the single call, place after place.
-fn fill(op: u32, first: &[u32], second: &[u32], answers: &mut [u32], refusals: &mut [u32])
+pub(crate) fn fill(
+    op: u32,
+    first: &[u32],
+    second: &[u32],
+    answers: &mut [u32],
+    refusals: &mut [u32],
+)
     requires { ⌜ Agree (now first) (now second) (now answers) (now refusals) ⌝ }
     ensures { λ r. ⌜ Fills op (now (first .entry)) (now (second .entry)) (now (answers .exit)) (now (refusals .exit)) ⌝ }
 {

@@ -1,0 +1,258 @@
+// A strip in blocks, for the operations whose steps are quick beside their tests. All words of a block
+// are judged at once, and where each is in reach the steps run alone; else each place has its tests. A
+// block's length is written out, so that its loops are compiled for it.
+ghost use mathlib.Core.Path.{_≡_};
+ghost use mathlib.Core.Bool.{true};
+ghost use lib.ListN.{length};
+ghost use Rattle.strip.specs.Strip.{Fills, Agree};
+ghost use Rattle.strip.specs.Reach.{hasBlocks, isRoot, AllReach};
+use crate::quick;
+
+// The words of a block.
+const BLOCK: usize = 32;
+
+// Fills every place of lists that have one length, for the square root.
+pub(crate) fn fill_roots(
+    op: u32,
+    first: &[u32],
+    second: &[u32],
+    answers: &mut [u32],
+    refusals: &mut [u32],
+)
+    requires { ⌜ Agree (now first) (now second) (now answers) (now refusals) ⌝ }
+    ensures { λ r. ⌜ Fills op (now (first .entry)) (now (second .entry)) (now (answers .exit)) (now (refusals .exit)) ⌝ }
+{
+    match op {
+        0x09 => root_blocks(0x09, first, second, answers, refusals),
+        0x89 => root_blocks(0x89, first, second, answers, refusals),
+        _ => crate::fill(op, first, second, answers, refusals),
+    }
+}
+
+fn root_blocks(op: u32, first: &[u32], second: &[u32], answers: &mut [u32], refusals: &mut [u32])
+    requires { ⌜ Agree (now first) (now second) (now answers) (now refusals) × (isRoot op ≡ true) ⌝ }
+    ensures { λ r. ⌜ Fills op (now (first .entry)) (now (second .entry)) (now (answers .exit)) (now (refusals .exit)) ⌝ }
+{
+    let count = first.len();
+    let mut i: usize = 0;
+    while count - i >= BLOCK {
+        let end = i + BLOCK;
+        root_block(
+            op,
+            &first[i..end],
+            &second[i..end],
+            &mut answers[i..end],
+            &mut refusals[i..end],
+        );
+        i = end;
+    }
+    each(
+        op,
+        &first[i..count],
+        &second[i..count],
+        &mut answers[i..count],
+        &mut refusals[i..count],
+    );
+}
+
+fn root_block(op: u32, first: &[u32], second: &[u32], answers: &mut [u32], refusals: &mut [u32])
+    requires { ⌜ Agree (now first) (now second) (now answers) (now refusals) × (isRoot op ≡ true) ⌝ }
+    ensures { λ r. ⌜ Fills op (now (first .entry)) (now (second .entry)) (now (answers .exit)) (now (refusals .exit)) ⌝ }
+{
+    if !roots(op, first, second, answers, refusals) {
+        each(op, first, second, answers, refusals);
+    }
+}
+
+// Fills every place of lists that have one length.
+pub(crate) fn fill(
+    op: u32,
+    first: &[u32],
+    second: &[u32],
+    answers: &mut [u32],
+    refusals: &mut [u32],
+)
+    requires { ⌜ Agree (now first) (now second) (now answers) (now refusals) ⌝ }
+    ensures { λ r. ⌜ Fills op (now (first .entry)) (now (second .entry)) (now (answers .exit)) (now (refusals .exit)) ⌝ }
+{
+    let count = first.len();
+    let mut i: usize = 0;
+    while count - i >= BLOCK {
+        let end = i + BLOCK;
+        block(
+            op,
+            &first[i..end],
+            &second[i..end],
+            &mut answers[i..end],
+            &mut refusals[i..end],
+        );
+        i = end;
+    }
+    rest(
+        op,
+        &first[i..count],
+        &second[i..count],
+        &mut answers[i..count],
+        &mut refusals[i..count],
+    );
+}
+
+// The same for a block. Each operation has an arm: with its number written out, the loops are compiled
+// for its kernel alone.
+fn block(op: u32, first: &[u32], second: &[u32], answers: &mut [u32], refusals: &mut [u32])
+    requires { ⌜ Agree (now first) (now second) (now answers) (now refusals) ⌝ }
+    ensures { λ r. ⌜ Fills op (now (first .entry)) (now (second .entry)) (now (answers .exit)) (now (refusals .exit)) ⌝ }
+{
+    match op {
+        0x11 => {
+            if judge(0x11, first, second) {
+                run(0x11, first, second, answers, refusals);
+            } else {
+                each(0x11, first, second, answers, refusals);
+            }
+        }
+        0x91 => {
+            if judge(0x91, first, second) {
+                run(0x91, first, second, answers, refusals);
+            } else {
+                each(0x91, first, second, answers, refusals);
+            }
+        }
+        0x12 => {
+            if judge(0x12, first, second) {
+                run(0x12, first, second, answers, refusals);
+            } else {
+                each(0x12, first, second, answers, refusals);
+            }
+        }
+        0x92 => {
+            if judge(0x92, first, second) {
+                run(0x92, first, second, answers, refusals);
+            } else {
+                each(0x92, first, second, answers, refusals);
+            }
+        }
+        0x13 => {
+            if judge(0x13, first, second) {
+                run(0x13, first, second, answers, refusals);
+            } else {
+                each(0x13, first, second, answers, refusals);
+            }
+        }
+        0x93 => {
+            if judge(0x93, first, second) {
+                run(0x93, first, second, answers, refusals);
+            } else {
+                each(0x93, first, second, answers, refusals);
+            }
+        }
+        0x14 => {
+            if judge(0x14, first, second) {
+                run(0x14, first, second, answers, refusals);
+            } else {
+                each(0x14, first, second, answers, refusals);
+            }
+        }
+        0x94 => {
+            if judge(0x94, first, second) {
+                run(0x94, first, second, answers, refusals);
+            } else {
+                each(0x94, first, second, answers, refusals);
+            }
+        }
+        0x15 => {
+            if judge(0x15, first, second) {
+                run(0x15, first, second, answers, refusals);
+            } else {
+                each(0x15, first, second, answers, refusals);
+            }
+        }
+        0x95 => {
+            if judge(0x95, first, second) {
+                run(0x95, first, second, answers, refusals);
+            } else {
+                each(0x95, first, second, answers, refusals);
+            }
+        }
+        _ => crate::fill(op, first, second, answers, refusals),
+    }
+}
+
+// The same for what is left behind the last block.
+fn rest(op: u32, first: &[u32], second: &[u32], answers: &mut [u32], refusals: &mut [u32])
+    requires { ⌜ Agree (now first) (now second) (now answers) (now refusals) ⌝ }
+    ensures { λ r. ⌜ Fills op (now (first .entry)) (now (second .entry)) (now (answers .exit)) (now (refusals .exit)) ⌝ }
+{
+    match op {
+        0x11 => each(0x11, first, second, answers, refusals),
+        0x91 => each(0x91, first, second, answers, refusals),
+        0x12 => each(0x12, first, second, answers, refusals),
+        0x92 => each(0x92, first, second, answers, refusals),
+        0x13 => each(0x13, first, second, answers, refusals),
+        0x93 => each(0x93, first, second, answers, refusals),
+        0x14 => each(0x14, first, second, answers, refusals),
+        0x94 => each(0x94, first, second, answers, refusals),
+        0x15 => each(0x15, first, second, answers, refusals),
+        0x95 => each(0x95, first, second, answers, refusals),
+        _ => crate::fill(op, first, second, answers, refusals),
+    }
+}
+
+// Whether every place is in reach of the steps alone.
+fn judge(op: u32, first: &[u32], second: &[u32]) -> bool
+    requires { ⌜ length (now second) ≡ length (now first) ⌝ }
+    ensures { λ r. ⌜ (r ≡ true → AllReach op (now (first .entry)) (now (second .entry))) ⌝ }
+{
+    let mut marks: u32 = 0;
+    let mut i: usize = 0;
+    while i < first.len() {
+        marks = marks | quick::mark(op, first[i], second[i]);
+        i = i + 1;
+    }
+    marks < 0x8000_0000
+}
+
+// Fills every place by the steps alone. Nothing is refused.
+fn run(op: u32, first: &[u32], second: &[u32], answers: &mut [u32], refusals: &mut [u32])
+    requires { ⌜ Agree (now first) (now second) (now answers) (now refusals) × AllReach op (now first) (now second) ⌝ }
+    ensures { λ r. ⌜ Fills op (now (first .entry)) (now (second .entry)) (now (answers .exit)) (now (refusals .exit)) ⌝ }
+{
+    let mut i: usize = 0;
+    while i < first.len() {
+        answers[i] = quick::word(op, first[i], second[i]);
+        refusals[i] = 0;
+        i = i + 1;
+    }
+}
+
+// Fills every place by steps that take any words.
+fn each(op: u32, first: &[u32], second: &[u32], answers: &mut [u32], refusals: &mut [u32])
+    requires { ⌜ Agree (now first) (now second) (now answers) (now refusals) × (hasBlocks op ≡ true) ⌝ }
+    ensures { λ r. ⌜ Fills op (now (first .entry)) (now (second .entry)) (now (answers .exit)) (now (refusals .exit)) ⌝ }
+{
+    let mut i: usize = 0;
+    while i < first.len() {
+        let number = quick::number(op, first[i], second[i]);
+        answers[i] = quick::beside(number, op, first[i], second[i]);
+        refusals[i] = number;
+        i = i + 1;
+    }
+}
+
+// Fills every place with half of its word about that of 1, and none refused, and says whether that is
+// the square root at each: a half needs no test, and to judge while halving is quicker than before.
+fn roots(op: u32, first: &[u32], second: &[u32], answers: &mut [u32], refusals: &mut [u32]) -> bool
+    requires { ⌜ Agree (now first) (now second) (now answers) (now refusals) × (isRoot op ≡ true) ⌝ }
+    ensures { λ r. ⌜ (r ≡ true → Fills op (now (first .entry)) (now (second .entry)) (now (answers .exit)) (now (refusals .exit))) ⌝ }
+{
+    let mut marks: u32 = 0;
+    let mut i: usize = 0;
+    while i < first.len() {
+        let w = first[i];
+        answers[i] = quick::half(w);
+        refusals[i] = 0;
+        marks = marks | quick::mark(op, w, second[i]);
+        i = i + 1;
+    }
+    marks < 0x8000_0000
+}

@@ -1,0 +1,242 @@
+// A place of a strip for the operations that have blocks: by the steps alone, where a test of the
+// words has told that no step meets a NaN and nothing is refused, and else by steps that take any words.
+ghost use mathlib.Core.Path.{_≡_};
+ghost use mathlib.Core.Bool.{true, cond};
+ghost use Prim.Native.Nat.{_≤_, _<_, _^_};
+ghost use lib.Dec.{leb};
+ghost use lib.Ieee.{binary32};
+ghost use Rattle.format.specs.Fields.{magnitude};
+ghost use Rattle.format.specs.Classes.{isZero};
+ghost use Rattle.float.specs.Engine.{ieee};
+ghost use Rattle.float.specs.Cos.{cosWord, sinWord};
+ghost use Rattle.guard.specs.Operations.{opSqrt, opAtan2};
+ghost use Rattle.guard.specs.Refusals.{refusalOf};
+ghost use Rattle.strip.specs.Strip.{wordAt, refusalAt};
+ghost use Rattle.strip.specs.Reach.{angleReach, hasBlocks, reach, halfWord, sizeNumber};
+use crate::angle;
+use crate::atan;
+use crate::choice;
+use crate::cosine;
+use crate::hypot;
+use float::F32;
+use float::cos;
+use float::wrap;
+use guard::refusal;
+
+// ---- the test
+
+// A word whose highest bit is clear only where the steps alone are the kernel's. Marks that are or-ed
+// tell the same of all their words.
+pub(crate) fn mark(op: u32, a: u32, b: u32) -> u32
+    ensures { λ r. ⌜ (r < 2 ^ 31 → reach op a b ≡ true) ⌝ }
+{
+    match op {
+        0x09 => normal_mark(a),
+        0x89 => unsigned_mark(a),
+        0x11 => size_mark(a, 0x5f7f_ffff),
+        0x91 => size_mark(a, 0x5f7f_ffff),
+        0x12 => angle_mark(a, b),
+        0x92 => angle_mark(a, b),
+        0x13 => size_mark(a, 0x4380_0000),
+        0x93 => size_mark(a, 0x4480_0000),
+        0x14 => size_mark(a, 0x4380_0000),
+        0x94 => size_mark(a, 0x4380_0000),
+        0x15 => angle_mark(a, b),
+        0x95 => numbers_mark(a, b),
+        _ => 0x8000_0000,
+    }
+}
+
+// Of positive normal numbers.
+fn normal_mark(w: u32) -> u32
+    ensures { λ r. ⌜ (r < 2 ^ 31 → (0x0080_0000 ≤ w) × (w < 0x7f80_0000)) ⌝ }
+{
+    let above = wrap::sum(w, 0xff80_0000);
+    above | wrap::sum(above, 0x0100_0000)
+}
+
+// Of words without the sign that are no NaN.
+fn unsigned_mark(w: u32) -> u32
+    ensures { λ r. ⌜ (r < 2 ^ 31 → w ≤ 0x7f80_0000) ⌝ }
+{
+    w | wrap::sum(w, 0x007f_ffff)
+}
+
+// Of magnitudes up to a limit.
+fn size_mark(w: u32, limit: u32) -> u32
+    requires { ⌜ limit < 2 ^ 31 ⌝ }
+    ensures { λ r. ⌜ (r < 2 ^ 31 → magnitude binary32 w ≤ limit) ⌝ }
+{
+    F32(w).without_sign().0 + (0x7fff_ffff - limit)
+}
+
+// Of two magnitudes of which neither is above 2^62, and not both are below 2^-60.
+fn angle_mark(y: u32, x: u32) -> u32
+    ensures { λ r. ⌜ (r < 2 ^ 31 → angleReach y x ≡ true) ⌝ }
+{
+    let height = F32(y).without_sign().0;
+    let across = F32(x).without_sign().0;
+    let above = (height + 0x217f_ffff) | (across + 0x217f_ffff);
+    above | !((height + 0x5e80_0000) | (across + 0x5e80_0000))
+}
+
+// Of two words that are no NaNs.
+fn numbers_mark(a: u32, b: u32) -> u32
+    ensures { λ r. ⌜ (r < 2 ^ 31 → (magnitude binary32 a ≤ 0x7f80_0000) × (magnitude binary32 b ≤ 0x7f80_0000)) ⌝ }
+{
+    size_mark(a, 0x7f80_0000) | size_mark(b, 0x7f80_0000)
+}
+
+// ---- the steps alone
+
+// What the single call answers there. It refuses nothing.
+pub(crate) fn word(op: u32, a: u32, b: u32) -> u32
+    requires { ⌜ reach op a b ≡ true ⌝ }
+    ensures { λ r. ⌜ (r ≡ wordAt op a b) × (refusalAt op a b ≡ 0) ⌝ }
+{
+    match op {
+        0x09 => half(a),
+        0x89 => half(a),
+        0x11 => atan::within_gate(a),
+        0x91 => atan::within_gate(a),
+        0x12 => angle::within_gate(a, b),
+        0x92 => angle::within_gate(a, b),
+        0x13 => cosine::cos(a),
+        0x93 => cosine::cos(a),
+        0x14 => cosine::sin(a),
+        0x94 => cosine::sin(a),
+        0x15 => hypot::of_numbers(a, b),
+        0x95 => hypot::of_numbers(a, b),
+        _ => 0,
+    }
+}
+
+// Half of a word about that of 1: the square root, in reach.
+pub(crate) fn half(w: u32) -> u32
+    ensures { λ r. ⌜ r ≡ halfWord w ⌝ }
+{
+    wrap::sum(w, F32::ONE.0) >> 1
+}
+
+// ---- any words
+
+// The refusal.
+pub(crate) fn number(op: u32, a: u32, b: u32) -> u32
+    requires { ⌜ hasBlocks op ≡ true ⌝ }
+    ensures { λ r. ⌜ r ≡ refusalAt op a b ⌝ }
+{
+    match op {
+        0x09 => root_number(a),
+        0x89 => 0,
+        0x11 => size_number(a, 0x5f7f_ffff),
+        0x91 => 0,
+        0x12 => angle_number(a, b),
+        0x92 => 0,
+        0x13 => size_number(a, 0x4380_0000),
+        0x93 => 0,
+        0x14 => size_number(a, 0x4380_0000),
+        0x94 => 0,
+        0x15 => angle_number(a, b),
+        0x95 => 0,
+        _ => 0,
+    }
+}
+
+// Of sqrt: 1 of an infinity or a NaN, 9 of a small number, 3 of one below 0.
+fn root_number(w: u32) -> u32
+    ensures { λ r. ⌜ r ≡ refusalOf opSqrt w 0 ⌝ }
+{
+    let size = F32(w).without_sign().0;
+    let below = choice::either(w >= 0x8000_0000, 3, 0);
+    let small = choice::either(size < 0x0080_0000, 9, below);
+    let some = choice::either(size == 0, 0, small);
+    choice::either(size >= 0x7f80_0000, 1, some)
+}
+
+// Of atan2 and hypot: 1 where either is an infinity or a NaN, 4 past the gate.
+fn angle_number(y: u32, x: u32) -> u32
+    ensures { λ r. ⌜ r ≡ refusalOf opAtan2 y x ⌝ }
+{
+    let height = F32(y).without_sign().0;
+    let across = F32(x).without_sign().0;
+    let above = (height > 0x5e80_0000) | (across > 0x5e80_0000);
+    let below = (height < 0x2180_0000) & (across < 0x2180_0000);
+    let outside = choice::either(above | below, 4, 0);
+    choice::either(
+        (height >= 0x7f80_0000) | (across >= 0x7f80_0000),
+        1,
+        outside,
+    )
+}
+
+// Of a kernel whose gate has a highest magnitude alone: 1 of an infinity or a NaN, 4 past it.
+fn size_number(w: u32, limit: u32) -> u32
+    ensures { λ r. ⌜ r ≡ sizeNumber limit w ⌝ }
+{
+    let size = F32(w).without_sign().0;
+    let outside = choice::either(size > limit, 4, 0);
+    choice::either(size >= 0x7f80_0000, 1, outside)
+}
+
+// The word that stands beside the refusal.
+pub(crate) fn beside(number: u32, op: u32, a: u32, b: u32) -> u32
+    requires { ⌜ (hasBlocks op ≡ true) × (number ≡ refusalAt op a b) ⌝ }
+    ensures { λ r. ⌜ r ≡ wordAt op a b ⌝ }
+{
+    choice::either(number == 0, any(op, a, b), 0)
+}
+
+// The word, where there is no refusal.
+fn any(op: u32, a: u32, b: u32) -> u32
+    ensures { λ r. ⌜ (hasBlocks op ≡ true → refusalAt op a b ≡ 0 → r ≡ wordAt op a b) ⌝ }
+{
+    match op {
+        0x09 => root(a),
+        0x89 => F32(a).sqrt().0,
+        0x11 => atan::of_any(a),
+        0x91 => atan::of_any(a),
+        0x12 => angle::of_any(a, b),
+        0x92 => angle::of_any(a, b),
+        0x13 => cosine::cos(within(a)),
+        0x93 => raw_cos(a),
+        0x14 => cosine::sin(within(a)),
+        0x94 => raw_sin(a),
+        0x15 => hypot::of_any(a, b),
+        0x95 => hypot::of_any(a, b),
+        _ => 0,
+    }
+}
+
+// The square root, of a zero and of a positive normal number.
+fn root(w: u32) -> u32
+    ensures { λ r. ⌜ r ≡ cond (isZero binary32 w) w (halfWord w) ⌝ }
+{
+    choice::either(refusal::is_zero(F32(w)), w, half(w))
+}
+
+// The word, or 0 in the place of one past the gate of cos and sin.
+fn within(w: u32) -> u32
+    ensures { λ r. ⌜ r ≡ cond (leb (magnitude binary32 w) 0x4380_0000) w 0 ⌝ }
+{
+    choice::either(F32(w).without_sign().0 <= 0x4380_0000, w, 0)
+}
+
+// cos of any word.
+fn raw_cos(w: u32) -> u32
+    ensures { λ r. ⌜ r ≡ cosWord ieee w ⌝ }
+{
+    if F32(w).without_sign().0 <= 0x4480_0000 {
+        return cosine::cos(w);
+    }
+    cos::of_word(w)
+}
+
+// sin of any word.
+fn raw_sin(w: u32) -> u32
+    ensures { λ r. ⌜ r ≡ sinWord ieee w ⌝ }
+{
+    if F32(w).without_sign().0 <= 0x4380_0000 {
+        return cosine::sin(w);
+    }
+    F32(w).sin().0
+}
