@@ -9,7 +9,8 @@ use mathlib.Core.List.{List, [], _∷_}
 use mathlib.Core.Bool.{Bool, true, false, cond, _&&_, _||_, false≢true}
 use borrow.Author.Tests.{lt-ltb, le-ltb, lt-leb, ne-eqb, leb-true, leb-false, ltb-true, eqb-true, eqb-false}
 use lib.Dec.{leb, ltb, eqb, lit<, lit≤}
-use lib.Ieee.{binary32}
+use lib.Ieee.{binary32, nanBits}
+use lib.Ieee.Bits.{nanBits-above}
 use Rattle.format.specs.Fields.{magnitude}
 use Rattle.format.specs.Classes.{isZero}
 use Rattle.format.specs.Estimates.{sqrtWord}
@@ -71,12 +72,13 @@ angle-reached y x h =
 pub passed : (limit w : ℕ) → limit < 0x7f80_0000 → upTo limit w ≡ true → sizeNumber limit w ≡ 0
 passed limit w h e = let l = leb-true (magnitude binary32 w) limit e in rw (lt-leb 0x7f80_0000 (magnitude binary32 w) (omega (arith, l, h)), le-ltb limit (magnitude binary32 w) l)
 
+-- the two refusals of a gate are no answer
+refused : (t : Bool) → _≡_ {A = ℕ} (cond t 1 4) 0 → ⊥
+refused true e = suc-ne-zero 0 e
+refused false e = suc-ne-zero 3 e
+
 not-passed : (limit w : ℕ) → upTo limit w ≡ false → sizeNumber limit w ≡ 0 → ⊥
-not-passed limit w e z = two (leb 0x7f80_0000 (magnitude binary32 w)) (rw (lt-ltb limit (magnitude binary32 w) (leb-false (magnitude binary32 w) limit e)) at z)
-  where
-    two : (t : Bool) → _≡_ {A = ℕ} (cond t 1 4) 0 → ⊥
-    two true e = suc-ne-zero 0 e
-    two false e = suc-ne-zero 3 e
+not-passed limit w e z = refused (leb 0x7f80_0000 (magnitude binary32 w)) (rw (lt-ltb limit (magnitude binary32 w) (leb-false (magnitude binary32 w) limit e)) at z)
 
 -- a word past the gate of cos and sin has a 0 in its place
 pub within-reach : (a : ℕ) → magnitude binary32 (cond (upTo 0x4380_0000 a) a 0) ≤ 0x4380_0000
@@ -85,6 +87,18 @@ within-reach a = go (upTo 0x4380_0000 a) refl
     go : (t : Bool) → upTo 0x4380_0000 a ≡ t → magnitude binary32 (cond t a 0) ≤ 0x4380_0000
     go true e = leb-true (magnitude binary32 a) 0x4380_0000 e
     go false e = lit≤ tt
+
+-- two words past the gate of atan2 have 0 and 1 in their places
+pub pair-reach : (y x : ℕ) → AngleReach (cond (angleReach y x) y 0) (cond (angleReach y x) x 0x3f80_0000)
+pair-reach y x = go (angleReach y x) refl
+  where
+    go : (t : Bool) → angleReach y x ≡ t → AngleReach (cond t y 0) (cond t x 0x3f80_0000)
+    go true e = angle-reached y x e
+    go false e = record { height = lit≤ tt; across = lit≤ tt; either = inr (lit≤ tt) }
+
+-- a word up to the infinity is no NaN
+pub read-number : (w : ℕ) → magnitude binary32 w ≤ 0x7f80_0000 → nanBits binary32 w ≡ false
+read-number w h = nanBits-above binary32 w ∙ le-ltb 0x7f80_0000 (magnitude binary32 w) h
 
 -- ---- a place
 
@@ -179,6 +193,14 @@ module _ (a b : ℕ) (k : a < 2 ^ 32) (l : b < 2 ^ 32) where
       go true d = refl
       go false d = absurd (not-passed 0x4380_0000 a d (e ∙ z))
 
+  -- two words past their gate have 0 and 1 in their places
+  pub pair-taken : (f : ℕ → ℕ → ℕ) (op : ℕ) → refusalOf 0x12 a b ≡ refusalAt op a b → refusalAt op a b ≡ 0 → f (cond (angleReach a b) a 0) (cond (angleReach a b) b 0x3f80_0000) ≡ f a b
+  pair-taken f op e z = go (angleReach a b) refl
+    where
+      go : (t : Bool) → angleReach a b ≡ t → f (cond t a 0) (cond t b 0x3f80_0000) ≡ f a b
+      go true d = refl
+      go false d = absurd (refused (leb 0x7f80_0000 (magnitude binary32 a) || leb 0x7f80_0000 (magnitude binary32 b)) (rw d at (angle-number-is a b ∙ e ∙ z)))
+
   -- ---- in reach nothing is refused
 
   root-passed : (leb 0x0080_0000 a && ltb a 0x7f80_0000) ≡ true → refusalAt 0x09 a b ≡ 0
@@ -192,19 +214,14 @@ module _ (a b : ℕ) (k : a < 2 ^ 32) (l : b < 2 ^ 32) where
       ∙ rw (m, lt-leb 0x7f80_0000 a g, ne-eqb a 0 (λ (e : a ≡ 0). let z : ⊥ = omega (arith, e, p) in z), le-ltb a 0x0080_0000 p, lt-leb 0x8000_0000 a (omega (arith, g)))
 
   angle-passed : angleReach a b ≡ true → refusalOf 0x12 a b ≡ 0
-  angle-passed h = let r = angle-reached a b h in sym (angle-number-is a b) ∙ tests (magnitude binary32 a) (magnitude binary32 b) (r .height) (r .across) (r .either)
+  angle-passed h =
+      let r = angle-reached a b h in
+      let f = lt-leb 0x7f80_0000 (magnitude binary32 a) (let z = r .height in omega (arith, z)) in
+      let g = lt-leb 0x7f80_0000 (magnitude binary32 b) (let z = r .across in omega (arith, z)) in
+      sym (angle-number-is a b) ∙ tests _ _ _ f g h
     where
-      none : (t : Bool) → (t && false) ≡ false
-      none true = refl
-      none false = refl
-
-      below : (l m n : ℕ) → (l ≤ m) ⊎ (l ≤ n) → (ltb m l && ltb n l) ≡ false
-      below l m n (inl h) = rw (le-ltb m l h)
-      below l m n (inr h) = rw (le-ltb n l h) (none (ltb m l))
-
-      tests : (m n : ℕ) → m ≤ 0x5e80_0000 → n ≤ 0x5e80_0000 → (0x2180_0000 ≤ m) ⊎ (0x2180_0000 ≤ n)
-          → _≡_ {A = ℕ} (cond (leb 0x7f80_0000 m || leb 0x7f80_0000 n) 1 (cond ((ltb 0x5e80_0000 m || ltb 0x5e80_0000 n) || (ltb m 0x2180_0000 && ltb n 0x2180_0000)) 4 0)) 0
-      tests m n f g e = rw (lt-leb 0x7f80_0000 m (omega (arith, f)), lt-leb 0x7f80_0000 n (omega (arith, g)), le-ltb 0x5e80_0000 m f, le-ltb 0x5e80_0000 n g, below 0x2180_0000 m n e)
+      tests : (s t u : Bool) → s ≡ false → t ≡ false → u ≡ true → _≡_ {A = ℕ} (cond (s || t) 1 (cond u 0 4)) 0
+      tests s t u p q r = rw (p, q, r)
 
   -- a judged place is not refused
   pub in-reach : (op : ℕ) → reach op a b ≡ true → refusalAt op a b ≡ 0

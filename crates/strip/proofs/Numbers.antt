@@ -12,7 +12,7 @@ use Rattle.format.proofs.Fields.{magnitude-lt}
 use Rattle.guard.specs.Operations.{opSqrt, opAtan, opAtan2, opCos, opSin, opHypot}
 use Rattle.guard.specs.Gates.{between, place, within, passes, larger, judged}
 use Rattle.guard.specs.Refusals.{refusalBehind, refusalOf}
-use Rattle.strip.specs.Reach.{sizeNumber}
+use Rattle.strip.specs.Reach.{angleReach, sizeNumber}
 
 -- ---- tests that come to the same
 
@@ -96,32 +96,31 @@ module _ (w : ℕ) where
       zero-first (leb 0x7f80_0000 m) (eqb m 0) (ltb m 0x0080_0000) (leb 0x8000_0000 w)
       ∙ sym (rw (endless m lt, fieldless m, gated 0 0x7fff_ffff m (lit< tt) (lit< tt) lt, le-leb 0 m zero-le, le-leb m 0x7fff_ffff (omega (arith, lt))))
 
--- the larger of two is past an end where either is above the high one or both are below the low one: by the tests that the first and the second
--- are no higher, and that they are no lower, where the second is the larger
-joined : (a b c d : Bool) → (b ≡ true → a ≡ true) → (c ≡ true → d ≡ true) → ((not a || not b) || (not c && not d)) ≡ not (d && b)
+-- the larger of two lies between two ends where neither is above the high one and one of them is not below the low one; by the tests that the
+-- smaller and the larger are no higher, and that they are no lower
+joined : (a b c d : Bool) → (b ≡ true → a ≡ true) → (c ≡ true → d ≡ true) → ((a && b) && (c || d)) ≡ (d && b)
 joined true true true true h k = refl
 joined true true true false h k = absurd (false≢true (k refl))
-joined true true false true h k = refl
-joined true true false false h k = refl
+joined true true false d h k = sym (and-true d)
+  where
+    and-true : (d : Bool) → (d && true) ≡ d
+    and-true true = refl
+    and-true false = refl
 joined false true c d h k = absurd (false≢true (h refl))
 joined true false c true h k = refl
 joined true false c false h k = refl
 joined false false c true h k = refl
 joined false false c false h k = refl
 
-turned : (a b c d : Bool) → ((a || b) || (c && d)) ≡ ((b || a) || (d && c))
-turned a b c d = rw (or-comm a b, and-comm c d)
-
--- the tests of a smaller and of a larger one
-below-larger : (l h m n : ℕ) → m ≤ n → ((not (leb m h) || not (leb n h)) || (not (leb l m) && not (leb l n))) ≡ not (leb l n && leb n h)
+below-larger : (l h m n : ℕ) → m ≤ n → ((leb m h && leb n h) && (leb l m || leb l n)) ≡ (leb l n && leb n h)
 below-larger l h m n k = joined (leb m h) (leb n h) (leb l m) (leb l n) (λ e. le-leb m h (le-trans k (leb-true n h e))) (λ e. le-leb l n (le-trans (leb-true l m e) k))
 
-either-past : (l h m n : ℕ) → ((ltb h m || ltb h n) || (ltb m l && ltb n l)) ≡ not (leb l (cond (leb m n) n m) && leb (cond (leb m n) n m) h)
-either-past l h m n = rw (sym (past m h), sym (past n h), sym (past l m), sym (past l n)) (go (leb m n) refl)
+either-between : (l h m n : ℕ) → ((leb m h && leb n h) && (leb l m || leb l n)) ≡ (leb l (cond (leb m n) n m) && leb (cond (leb m n) n m) h)
+either-between l h m n = go (leb m n) refl
   where
-    go : (t : Bool) → leb m n ≡ t → ((not (leb m h) || not (leb n h)) || (not (leb l m) && not (leb l n))) ≡ not (leb l (cond t n m) && leb (cond t n m) h)
+    go : (t : Bool) → leb m n ≡ t → ((leb m h && leb n h) && (leb l m || leb l n)) ≡ (leb l (cond t n m) && leb (cond t n m) h)
     go true e = below-larger l h m n (leb-true m n e)
-    go false e = turned (not (leb m h)) (not (leb n h)) (not (leb l m)) (not (leb l n)) ∙ below-larger l h n m (le-of-lt (leb-false m n e))
+    go false e = rw (and-comm (leb m h) (leb n h), or-comm (leb l m) (leb l n)) (below-larger l h n m (le-of-lt (leb-false m n e)))
 
 larger-lt : (m n : ℕ) → m < 2 ^ 31 → n < 2 ^ 31 → cond (leb m n) n m < 2 ^ 31
 larger-lt m n h k = go (leb m n)
@@ -129,6 +128,10 @@ larger-lt m n h k = go (leb m n)
     go : (t : Bool) → cond t n m < 2 ^ 31
     go true = k
     go false = h
+
+turned : (t : Bool) → _≡_ {A = ℕ} (cond t 0 4) (cond (not t) 4 0)
+turned true = refl
+turned false = refl
 
 either-endless : (p q : Bool) (x : ℕ) → cond (p || q) 1 x ≡ cond p 1 (cond q 1 x)
 either-endless true q x = refl
@@ -141,11 +144,12 @@ module _ (y x : ℕ) where
   abbrev n : ℕ
   n = magnitude binary32 x
 
-  pub angle-number-is : _≡_ {A = ℕ} (cond (leb 0x7f80_0000 k || leb 0x7f80_0000 n) 1 (cond ((ltb 0x5e80_0000 k || ltb 0x5e80_0000 n) || (ltb k 0x2180_0000 && ltb n 0x2180_0000)) 4 0)) (refusalOf opAtan2 y x)
+  pub angle-number-is : _≡_ {A = ℕ} (cond (leb 0x7f80_0000 k || leb 0x7f80_0000 n) 1 (cond (angleReach y x) 0 4)) (refusalOf opAtan2 y x)
   unfolding refusalBehind judged
   angle-number-is =
-      either-endless (leb 0x7f80_0000 k) (leb 0x7f80_0000 n) _
-      ∙ sym (rw (endless k (lt y), endless n (lt x), gated 0x2180_0000 0x5e80_0000 (larger y x) (lit< tt) (lit< tt) (larger-lt k n (lt y) (lt x)), either-past 0x2180_0000 0x5e80_0000 k n))
+      either-endless (leb 0x7f80_0000 k) (leb 0x7f80_0000 n) (cond (angleReach y x) 0 4)
+      ∙ ap (λ (m : ℕ). cond (leb 0x7f80_0000 k) 1 (cond (leb 0x7f80_0000 n) 1 m)) (turned (angleReach y x))
+      ∙ sym (rw (endless k (lt y), endless n (lt x), gated 0x2180_0000 0x5e80_0000 (larger y x) (lit< tt) (lit< tt) (larger-lt k n (lt y) (lt x)), sym (either-between 0x2180_0000 0x5e80_0000 k n)))
 
   -- hypot has atan2's gate
   pub hypot-number-is : refusalOf opHypot y x ≡ refusalOf opAtan2 y x

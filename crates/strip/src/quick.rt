@@ -8,7 +8,9 @@ ghost use lib.Ieee.{binary32};
 ghost use Rattle.format.specs.Fields.{magnitude};
 ghost use Rattle.format.specs.Classes.{isZero};
 ghost use Rattle.float.specs.Engine.{ieee};
+ghost use Rattle.float.specs.Atan2.{atan2Word};
 ghost use Rattle.float.specs.Cos.{cosWord, sinWord};
+ghost use Rattle.float.specs.Hypot.{hypotWord};
 ghost use Rattle.guard.specs.Operations.{opSqrt, opAtan2};
 ghost use Rattle.guard.specs.Refusals.{refusalOf};
 ghost use Rattle.strip.specs.Strip.{wordAt, refusalAt};
@@ -159,14 +161,22 @@ fn angle_number(y: u32, x: u32) -> u32
 {
     let height = F32(y).without_sign().0;
     let across = F32(x).without_sign().0;
-    let above = (height > 0x5e80_0000) | (across > 0x5e80_0000);
-    let below = (height < 0x2180_0000) & (across < 0x2180_0000);
-    let outside = choice::either(above | below, 4, 0);
+    let outside = choice::either(angle_inside(y, x), 0, 4);
     choice::either(
         (height >= 0x7f80_0000) | (across >= 0x7f80_0000),
         1,
         outside,
     )
+}
+
+// Whether the gate of atan2 and hypot takes two words.
+fn angle_inside(y: u32, x: u32) -> bool
+    ensures { λ r. ⌜ r ≡ angleReach y x ⌝ }
+{
+    let height = F32(y).without_sign().0;
+    let across = F32(x).without_sign().0;
+    let above = (height >= 0x2180_0000) | (across >= 0x2180_0000);
+    (height <= 0x5e80_0000) & (across <= 0x5e80_0000) & above
 }
 
 // Of a kernel whose gate has a highest magnitude alone: 1 of an infinity or a NaN, 4 past it.
@@ -195,13 +205,13 @@ fn any(op: u32, a: u32, b: u32) -> u32
         0x89 => F32(a).sqrt().0,
         0x11 => atan::of_any(a),
         0x91 => atan::of_any(a),
-        0x12 => angle::of_any(a, b),
+        0x12 => guarded_angle(a, b),
         0x92 => angle::of_any(a, b),
         0x13 => cosine::cos(within(a)),
         0x93 => raw_cos(a),
         0x14 => cosine::sin(within(a)),
         0x94 => raw_sin(a),
-        0x15 => hypot::of_any(a, b),
+        0x15 => guarded_hypot(a, b),
         0x95 => hypot::of_any(a, b),
         _ => 0,
     }
@@ -212,6 +222,28 @@ fn root(w: u32) -> u32
     ensures { λ r. ⌜ r ≡ cond (isZero binary32 w) w (halfWord w) ⌝ }
 {
     choice::either(refusal::is_zero(F32(w)), w, half(w))
+}
+
+// atan2 within its gate; past it that of 0 and 1.
+fn guarded_angle(y: u32, x: u32) -> u32
+    ensures { λ r. ⌜ r ≡ atan2Word (cond (angleReach y x) y 0) (cond (angleReach y x) x 0x3f80_0000) ⌝ }
+{
+    let inside = angle_inside(y, x);
+    angle::within_gate(
+        choice::either(inside, y, 0),
+        choice::either(inside, x, F32::ONE.0),
+    )
+}
+
+// The same of hypot.
+fn guarded_hypot(a: u32, b: u32) -> u32
+    ensures { λ r. ⌜ r ≡ hypotWord (cond (angleReach a b) a 0) (cond (angleReach a b) b 0x3f80_0000) ⌝ }
+{
+    let inside = angle_inside(a, b);
+    hypot::of_numbers(
+        choice::either(inside, a, 0),
+        choice::either(inside, b, F32::ONE.0),
+    )
 }
 
 // The word, or 0 in the place of one past the gate of cos and sin.

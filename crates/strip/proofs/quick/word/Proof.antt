@@ -4,17 +4,16 @@ use Prim.Native.Nat.{ℕ, _≤_, _<_}
 use native.Mathlib.Nat.{le-trans}
 use native.Mathlib.Omega.{arith}
 use mathlib.Core.Path.{_≡_, refl, sym, _∙_}
-use mathlib.Core.Bool.{true, false, false≢true}
-use borrow.Author.Tests.{leb-true, le-ltb}
+use mathlib.Core.Bool.{true, false≢true}
+use borrow.Author.Tests.{leb-true}
 use lib.Dec.{lit≤}
-use lib.Ieee.{binary32, nanBits}
-use lib.Ieee.Bits.{nanBits-above}
+use lib.Ieee.{binary32}
 use Rattle.format.specs.Fields.{magnitude}
 use Rattle.guard.proofs.Open.{both}
 use Rattle.guard.proofs.Lists.{unlisted}
 use Rattle.strip.specs.Strip.{wordAt, refusalAt}
 use Rattle.strip.specs.Reach.{upTo, blocked}
-use Rattle.strip.proofs.InReach.{Answered, angle-reached, in-reach, half-answered, atan-answered, angle-answered, cos-answered, sin-answered, hypot-answered, raw-atan, raw-angle, raw-cos, raw-sin, raw-hypot}
+use Rattle.strip.proofs.InReach.{Answered, angle-reached, read-number, in-reach, half-answered, atan-answered, angle-answered, cos-answered, sin-answered, hypot-answered, raw-atan, raw-angle, raw-cos, raw-sin, raw-hypot}
 use Rattle.strip.proofs.quick.word.Statement.{statement}
 use Rattle.strip.proofs.quick.word.Tie as tie
 
@@ -23,10 +22,6 @@ given e p = (e ∙ sym (p .word), p .number)
 
 under : (w : ℕ) → upTo 0x5f7f_ffff w ≡ true → magnitude binary32 w < 0x5f80_0000
 under w e = let h = leb-true (magnitude binary32 w) 0x5f7f_ffff e in omega (arith, h)
-
--- a word up to the infinity is no NaN
-number : (w : ℕ) → magnitude binary32 w ≤ 0x7f80_0000 → nanBits binary32 w ≡ false
-number w h = nanBits-above binary32 w ∙ le-ltb 0x7f80_0000 (magnitude binary32 w) h
 
 pub word-spec : {M : Type 1} → statement M
 word-spec =
@@ -41,8 +36,8 @@ word-spec =
     (λ c κs. leb-true _ _ (rw (c .match .keys8) at (c .before .pre)))
     (λ c κs. leb-true _ _ (rw (c .match .keys9) at (c .before .pre)))
     (λ c κs. leb-true _ _ (rw (c .match .keys10) at (c .before .pre)))
-    (λ c κs. let r = angle-reached _ _ (rw (c .match .keys11) at (c .before .pre)) in (number _ (le-trans (r .height) (lit≤ tt)), number _ (le-trans (r .across) (lit≤ tt))))
-    (λ c κs. let h = both _ _ (rw (c .match .keys12) at (c .before .pre)) in (number _ (leb-true _ _ (h .0)), number _ (leb-true _ _ (h .1))))
+    (λ c κs. let r = angle-reached _ _ (rw (c .match .keys11) at (c .before .pre)) in (read-number _ (le-trans (r .height) (lit≤ tt)), read-number _ (le-trans (r .across) (lit≤ tt))))
+    (λ c κs. let h = both _ _ (rw (c .match .keys12) at (c .before .pre)) in (read-number _ (leb-true _ _ (h .0)), read-number _ (leb-true _ _ (h .1))))
     (λ c. let s = c .before .before in rw (c .before .match .keys1) (given (c .half .ensures) (half-answered 0x09 (s .args .a) (s .args .b) refl (rw (c .before .match .keys1) at (s .pre)))))
     (λ c. let s = c .before .before in rw (c .before .match .keys2) (given (c .half2 .ensures) (half-answered 0x89 (s .args .a) (s .args .b) refl (rw (c .before .match .keys2) at (s .pre)))))
     (λ c. let s = c .before .before in rw (c .before .match .keys3) (given (c .within-gate .ensures) (atan-answered (s .args .a) (s .args .b) (s .fits .a .fits) (s .fits .b .fits) (in-reach (s .args .a) (s .args .b) (s .fits .a .fits) (s .fits .b .fits) 0x11 (rw (c .before .match .keys3) at (s .pre))))))
