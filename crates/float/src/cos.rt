@@ -11,7 +11,7 @@ use crate::steps;
 pub const TURN: f32 = 0.15915494;
 
 // The share of the parabola's own square that mends it.
-const MENDS: f32 = 0.225;
+pub const MENDS: f32 = 0.225;
 
 impl F32 {
     pub fn cos(self) -> F32

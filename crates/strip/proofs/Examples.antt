@@ -1,8 +1,10 @@
--- Strips worked out: what each returns and what its two lists are left with, and which operations there are. Assumes nothing.
+-- Strips worked out: what each returns and what its two lists are left with, which operations there are, and which words the blocks run without a
+-- test. Assumes nothing.
 use Prim.Native.Nat.{ℕ, suc}
 use mathlib.Core.Path.{_≡_, refl}
+use mathlib.Core.Bool.{Bool, true, false}
 use mathlib.Core.List.{List, [], _∷_, map}
-use lib.ListN.{take}
+use lib.ListN.{length, take, replicate}
 use lib.Ieee.{add, sub, mul, div, rem, lt, le, eq, nanBits, ofBits, toBits, ofInt, toSigned}
 use Rattle.float.specs.Atan.{atanNormWord, atanWord}
 use Rattle.float.specs.Atan2.{quarters, atan2Word}
@@ -13,6 +15,7 @@ use Rattle.float.specs.DivEuclid.{divEuclidWord}
 use Rattle.guard.specs.Gates.{judged}
 use Rattle.guard.specs.Refusals.{refusalBehind}
 use Rattle.strip.specs.Strip.{operandsIn, wordAt, refusalAt, stripRefusal, stripLeaves}
+use Rattle.strip.specs.Reach.{reach}
 use Rattle.strip.proofs.OneAnswer.{Seen, seen, shows}
 
 -- ---- whole strips
@@ -122,3 +125,78 @@ no-operations = refl
 
 pub cut-where-they-differ : map (λ k. stripRefusal 0x09 (take k (two 1 1)) (take k (alone 1)) (take k (two 7 7)) (take k (two 8 8))) (two 2 1) ≡ two 10 0
 cut-where-they-differ = refl
+
+-- ---- which words the blocks run without a test: the last one and the one past it, at each end of each reach
+
+pub record Reached : Type 0 where
+  pub op : ℕ
+  pub a : ℕ
+  pub b : ℕ
+
+abbrev of : ℕ → ℕ → ℕ → Reached
+of op a b = record { op = op; a = a; b = b }
+
+abbrev inside : List Reached
+inside =
+    of 0x06 0x7f7f_ffff 0
+    ∷ of 0x06 0xff7f_ffff 0
+    ∷ of 0x09 0x0080_0000 0
+    ∷ of 0x09 0x7f7f_ffff 0
+    ∷ of 0x89 0x0000_0000 0
+    ∷ of 0x89 0x7f80_0000 0
+    ∷ of 0x0a 0x0080_0000 0
+    ∷ of 0x0a 0x7f7f_ffff 0
+    ∷ of 0x0b 0x8080_0000 0
+    ∷ of 0x0b 0x7e80_0000 0
+    ∷ of 0x11 0xdf7f_ffff 0
+    ∷ of 0x91 0x5f7f_ffff 0
+    ∷ of 0x12 0x2180_0000 0
+    ∷ of 0x12 0 0xa180_0000
+    ∷ of 0x12 0x5e80_0000 0xde80_0000
+    ∷ of 0x92 0 0x2180_0000
+    ∷ of 0x13 0xc380_0000 0
+    ∷ of 0x93 0x4480_0000 0
+    ∷ of 0x14 0x4380_0000 0
+    ∷ of 0x94 0x4380_0000 0
+    ∷ of 0x15 0xde80_0000 0
+    ∷ of 0x95 0x7f80_0000 0xff80_0000
+    ∷ []
+
+abbrev outside : List Reached
+outside =
+    of 0x06 0x7f80_0000 0
+    ∷ of 0x09 0x007f_ffff 0
+    ∷ of 0x09 0x7f80_0000 0
+    ∷ of 0x09 0x8080_0000 0
+    ∷ of 0x89 0x7f80_0001 0
+    ∷ of 0x89 0x8000_0000 0
+    ∷ of 0x0a 0x007f_ffff 0
+    ∷ of 0x0a 0x7f80_0000 0
+    ∷ of 0x0b 0x807f_ffff 0
+    ∷ of 0x0b 0xfe80_0001 0
+    ∷ of 0x11 0x5f80_0000 0
+    ∷ of 0x91 0xdf80_0000 0
+    ∷ of 0x12 0x217f_ffff 0xa17f_ffff
+    ∷ of 0x12 0x5e80_0001 0
+    ∷ of 0x12 0 0x5e80_0001
+    ∷ of 0x92 0 0
+    ∷ of 0x13 0x4380_0001 0
+    ∷ of 0x93 0xc480_0001 0
+    ∷ of 0x14 0x4380_0001 0
+    ∷ of 0x94 0x4380_0001 0
+    ∷ of 0x15 0 0xde80_0001
+    ∷ of 0x95 0x7f80_0001 0
+    ∷ of 0x95 0 0xff80_0001
+    ∷ of 0x86 0 0
+    ∷ of 0x8a 0x3f80_0000 0
+    ∷ of 0x0c 0x3f80_0000 0
+    ∷ []
+
+abbrev told : List Reached → List Bool
+told = map (λ c. reach (c .op) (c .a) (c .b))
+
+pub all-inside : told inside ≡ replicate (length inside) true
+all-inside = refl
+
+pub all-outside : told outside ≡ replicate (length outside) false
+all-outside = refl

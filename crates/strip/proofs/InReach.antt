@@ -13,7 +13,8 @@ use lib.Ieee.{binary32, nanBits}
 use lib.Ieee.Bits.{nanBits-above}
 use Rattle.format.specs.Fields.{magnitude}
 use Rattle.format.specs.Classes.{isZero}
-use Rattle.format.specs.Estimates.{sqrtWord}
+use Rattle.format.specs.Sign.{absWord}
+use Rattle.format.specs.Estimates.{sqrtWord, invWord, invsqrtWord}
 use Rattle.format.proofs.Classes.{normal-of}
 use Rattle.format.proofs.AtLeastZero.{up-to-infinity}
 use Rattle.float.specs.Engine.{ieee}
@@ -28,10 +29,10 @@ use Rattle.guard.specs.Guarded.{valueOf}
 use Rattle.guard.proofs.Open.{both, opened}
 use Rattle.guard.proofs.Laws.{second-word-is-ignored}
 use Rattle.strip.specs.Strip.{operandsIn, wordAt, refusalAt}
-use Rattle.strip.specs.Reach.{upTo, angleReach, AngleReach, blocked, hasBlocks, reach, isRoot, halfWord, sizeNumber}
+use Rattle.strip.specs.Reach.{upTo, angleReach, AngleReach, blocked, hasBlocks, reach, onBits, halfWord, bitsWord, sizeNumber}
 use Rattle.strip.proofs.Answers.{raw-place, answered-place, guarded-number, refused-is-zero}
 use Rattle.strip.proofs.Runs.{same-word, same-number}
-use Rattle.strip.proofs.Numbers.{atan-number-is, cos-number-is, sin-number-is, root-number-is, angle-number-is, hypot-number-is}
+use Rattle.strip.proofs.Numbers.{abs-number-is, invsqrt-number-is, inv-number-is, atan-number-is, cos-number-is, sin-number-is, root-number-is, angle-number-is, hypot-number-is}
 
 -- ---- the operations of a list
 
@@ -55,8 +56,8 @@ some n e = suc-ne-zero n e
 -- ---- facts of words in reach
 
 -- the square root of a word from 0 up to the infinity is its half
-pub halved : (a : ℕ) → a ≤ 0x7f80_0000 → sqrtWord binary32 a ≡ halfWord a
-halved a h = rw (up-to-infinity binary32 a h)
+pub root-halved : (a : ℕ) → a ≤ 0x7f80_0000 → sqrtWord binary32 a ≡ halfWord a
+root-halved a h = rw (up-to-infinity binary32 a h)
 
 pub angle-reached : (y x : ℕ) → angleReach y x ≡ true → AngleReach y x
 angle-reached y x h =
@@ -97,8 +98,8 @@ pair-reach y x = go (angleReach y x) refl
     go false e = record { height = lit≤ tt; across = lit≤ tt; either = inr (lit≤ tt) }
 
 -- a word up to the infinity is no NaN
-pub read-number : (w : ℕ) → magnitude binary32 w ≤ 0x7f80_0000 → nanBits binary32 w ≡ false
-read-number w h = nanBits-above binary32 w ∙ le-ltb 0x7f80_0000 (magnitude binary32 w) h
+pub no-nan : (w : ℕ) → magnitude binary32 w ≤ 0x7f80_0000 → nanBits binary32 w ≡ false
+no-nan w h = nanBits-above binary32 w ∙ le-ltb 0x7f80_0000 (magnitude binary32 w) h
 
 -- ---- a place
 
@@ -139,6 +140,15 @@ module _ (a b : ℕ) (k : a < 2 ^ 32) (l : b < 2 ^ 32) where
   at-place : (op n : ℕ) → (operandsIn op ≡ 0 → ⊥) → op < 0x80 → refusalOf op a b ≡ n → n ≡ refusalAt op a b
   at-place op n o g e = sym e ∙ sym (guarded-number op a b o k l g)
 
+  pub abs-number-at : sizeNumber 0x7fff_ffff a ≡ refusalAt 0x06 a b
+  abs-number-at = at-place 0x06 _ (some 0) (lit< tt) (second-word-is-ignored 0x06 a b refl .0 ∙ abs-number-is a)
+
+  pub invsqrt-number-at : refusalOf 0x0a a 0 ≡ refusalAt 0x0a a b
+  invsqrt-number-at = at-place 0x0a _ (some 0) (lit< tt) (second-word-is-ignored 0x0a a b refl .0)
+
+  pub inv-number-at : refusalOf 0x0b a 0 ≡ refusalAt 0x0b a b
+  inv-number-at = at-place 0x0b _ (some 0) (lit< tt) (second-word-is-ignored 0x0b a b refl .0)
+
   pub root-number-at : refusalOf 0x09 a 0 ≡ refusalAt 0x09 a b
   root-number-at = at-place 0x09 _ (some 0) (lit< tt) (second-word-is-ignored 0x09 a b refl .0)
 
@@ -168,7 +178,16 @@ module _ (a b : ℕ) (k : a < 2 ^ 32) (l : b < 2 ^ 32) where
 
       go : (t : Bool) → isZero binary32 a ≡ t → cond t a (sqrtWord binary32 a) ≡ cond t a (halfWord a)
       go true e = refl
-      go false e = let o = opened 0x09 a b none in halved a (le-of-lt (normal-of binary32 a (o .first) e (o .small) (o .sign) .below))
+      go false e = let o = opened 0x09 a b none in root-halved a (le-of-lt (normal-of binary32 a (o .first) e (o .small) (o .sign) .below))
+
+  pub abs-answered : refusalAt 0x06 a b ≡ 0 → Answered 0x06 a b (absWord binary32 a)
+  abs-answered = answered 0x06 (some 0) (lit< tt)
+
+  pub invsqrt-answered : refusalAt 0x0a a b ≡ 0 → Answered 0x0a a b (invsqrtWord a)
+  invsqrt-answered = answered 0x0a (some 0) (lit< tt)
+
+  pub inv-answered : refusalAt 0x0b a b ≡ 0 → Answered 0x0b a b (invWord binary32 a)
+  inv-answered = answered 0x0b (some 0) (lit< tt)
 
   pub atan-answered : refusalAt 0x11 a b ≡ 0 → Answered 0x11 a b (atanWord ieee a)
   atan-answered = answered 0x11 (some 0) (lit< tt)
@@ -186,7 +205,7 @@ module _ (a b : ℕ) (k : a < 2 ^ 32) (l : b < 2 ^ 32) where
   hypot-answered = answered 0x15 (some 1) (lit< tt)
 
   -- an operation that took a 0 in the place of a word past its gate
-  pub taken : (f : ℕ → ℕ) (op : ℕ) → sizeNumber 0x4380_0000 a ≡ refusalAt op a b → refusalAt op a b ≡ 0 → f (cond (upTo 0x4380_0000 a) a 0) ≡ f a
+  taken : (f : ℕ → ℕ) (op : ℕ) → sizeNumber 0x4380_0000 a ≡ refusalAt op a b → refusalAt op a b ≡ 0 → f (cond (upTo 0x4380_0000 a) a 0) ≡ f a
   taken f op e z = go (upTo 0x4380_0000 a) refl
     where
       go : (t : Bool) → upTo 0x4380_0000 a ≡ t → f (cond t a 0) ≡ f a
@@ -194,24 +213,65 @@ module _ (a b : ℕ) (k : a < 2 ^ 32) (l : b < 2 ^ 32) where
       go false d = absurd (not-passed 0x4380_0000 a d (e ∙ z))
 
   -- two words past their gate have 0 and 1 in their places
-  pub pair-taken : (f : ℕ → ℕ → ℕ) (op : ℕ) → refusalOf 0x12 a b ≡ refusalAt op a b → refusalAt op a b ≡ 0 → f (cond (angleReach a b) a 0) (cond (angleReach a b) b 0x3f80_0000) ≡ f a b
+  pair-taken : (f : ℕ → ℕ → ℕ) (op : ℕ) → refusalOf 0x12 a b ≡ refusalAt op a b → refusalAt op a b ≡ 0 → f (cond (angleReach a b) a 0) (cond (angleReach a b) b 0x3f80_0000) ≡ f a b
   pair-taken f op e z = go (angleReach a b) refl
     where
       go : (t : Bool) → angleReach a b ≡ t → f (cond t a 0) (cond t b 0x3f80_0000) ≡ f a b
       go true d = refl
       go false d = absurd (refused (leb 0x7f80_0000 (magnitude binary32 a) || leb 0x7f80_0000 (magnitude binary32 b)) (rw d at (angle-number-is a b ∙ e ∙ z)))
 
+  pub cos-taken : refusalAt 0x13 a b ≡ 0 → cosWord ieee (cond (upTo 0x4380_0000 a) a 0) ≡ wordAt 0x13 a b
+  cos-taken z = taken (cosWord ieee) 0x13 cos-number-at z ∙ sym (cos-answered z .word)
+
+  pub sin-taken : refusalAt 0x14 a b ≡ 0 → sinWord ieee (cond (upTo 0x4380_0000 a) a 0) ≡ wordAt 0x14 a b
+  sin-taken z = taken (sinWord ieee) 0x14 sin-number-at z ∙ sym (sin-answered z .word)
+
+  pub angle-taken : refusalAt 0x12 a b ≡ 0 → atan2Word (cond (angleReach a b) a 0) (cond (angleReach a b) b 0x3f80_0000) ≡ wordAt 0x12 a b
+  angle-taken z = pair-taken atan2Word 0x12 angle-number-at z ∙ sym (angle-answered z .word)
+
+  pub hypot-taken : refusalAt 0x15 a b ≡ 0 → hypotWord (cond (angleReach a b) a 0) (cond (angleReach a b) b 0x3f80_0000) ≡ wordAt 0x15 a b
+  hypot-taken z = pair-taken hypotWord 0x15 hypot-number-at z ∙ sym (hypot-answered z .word)
+
   -- ---- in reach nothing is refused
 
-  root-passed : (leb 0x0080_0000 a && ltb a 0x7f80_0000) ≡ true → refusalAt 0x09 a b ≡ 0
-  root-passed h =
-      let f = both (leb 0x0080_0000 a) (ltb a 0x7f80_0000) h in
-      let p = leb-true 0x0080_0000 a (f .0) in
-      let g = ltb-true a 0x7f80_0000 (f .1) in
-      let m : magnitude binary32 a ≡ a = mod-eq-of-lt (omega (arith, g)) in
-      sym root-number-at
-      ∙ sym (root-number-is a)
-      ∙ rw (m, lt-leb 0x7f80_0000 a g, ne-eqb a 0 (λ (e : a ≡ 0). let z : ⊥ = omega (arith, e, p) in z), le-ltb a 0x0080_0000 p, lt-leb 0x8000_0000 a (omega (arith, g)))
+  abs-passed : upTo 0x7f7f_ffff a ≡ true → refusalAt 0x06 a b ≡ 0
+  abs-passed h =
+      let l = leb-true (magnitude binary32 a) 0x7f7f_ffff h in
+      sym abs-number-at ∙ rw (lt-leb 0x7f80_0000 (magnitude binary32 a) (omega (arith, l)), le-ltb 0x7fff_ffff (magnitude binary32 a) (omega (arith, l)))
+
+  -- of a positive normal number
+  module _ (h : (leb 0x0080_0000 a && ltb a 0x7f80_0000) ≡ true) where
+    above : 0x0080_0000 ≤ a
+    above = leb-true 0x0080_0000 a (both (leb 0x0080_0000 a) (ltb a 0x7f80_0000) h .0)
+
+    below : a < 0x7f80_0000
+    below = ltb-true a 0x7f80_0000 (both (leb 0x0080_0000 a) (ltb a 0x7f80_0000) h .1)
+
+    unsigned : magnitude binary32 a ≡ a
+    unsigned = mod-eq-of-lt (omega (arith, below))
+
+    not-zero : isZero binary32 a ≡ false
+    not-zero = ap (λ (m : ℕ). eqb m 0) unsigned ∙ ne-eqb a 0 (λ (e : a ≡ 0). let z : ⊥ = omega (arith, e, above) in z)
+
+    none : refusalOf 0x09 a 0 ≡ 0
+    none = sym (root-number-is a) ∙ rw (not-zero, unsigned, lt-leb 0x7f80_0000 a below, le-ltb a 0x0080_0000 above, lt-leb 0x8000_0000 a (omega (arith, below)))
+
+    root-passed : refusalAt 0x09 a b ≡ 0
+    root-passed = sym root-number-at ∙ none
+
+    invsqrt-passed : refusalAt 0x0a a b ≡ 0
+    invsqrt-passed = sym invsqrt-number-at ∙ sym (invsqrt-number-is a) ∙ rw (not-zero, none)
+
+  inv-passed : (leb 0x0080_0000 (magnitude binary32 a) && upTo 0x7e80_0000 a) ≡ true → refusalAt 0x0b a b ≡ 0
+  inv-passed h =
+      let f = both (leb 0x0080_0000 (magnitude binary32 a)) (upTo 0x7e80_0000 a) h in
+      let p = leb-true 0x0080_0000 (magnitude binary32 a) (f .0) in
+      sym inv-number-at
+      ∙ sym (inv-number-is a)
+      ∙ rw (ne-eqb (magnitude binary32 a) 0 (λ (e : magnitude binary32 a ≡ 0). let z : ⊥ = omega (arith, e, p) in z), le-ltb (magnitude binary32 a) 0x0080_0000 p) (passed 0x7e80_0000 a (lit< tt) (f .1))
+
+  atan-passed : upTo 0x5f7f_ffff a ≡ true → refusalAt 0x11 a b ≡ 0
+  atan-passed h = sym atan-number-at ∙ passed 0x5f7f_ffff a (lit< tt) h
 
   angle-passed : angleReach a b ≡ true → refusalOf 0x12 a b ≡ 0
   angle-passed h =
@@ -229,30 +289,30 @@ module _ (a b : ℕ) (k : a < 2 ^ 32) (l : b < 2 ^ 32) where
     where
       each : Each (λ n. reach n a b ≡ true → refusalAt n a b ≡ 0) blocked
       each = (
-        root-passed,
+        abs-passed,
         (
-          (λ h. raw-root .number),
+          root-passed,
           (
-            (λ h. sym atan-number-at ∙ passed 0x5f7f_ffff a (lit< tt) h),
+            (λ h. raw-root .number),
             (
-              (λ h. raw-atan .number),
+              invsqrt-passed,
               (
-                (λ h. sym angle-number-at ∙ angle-passed h),
+                inv-passed,
                 (
-                  (λ h. raw-angle .number),
+                  atan-passed,
                   (
-                    (λ h. sym cos-number-at ∙ passed 0x4380_0000 a (lit< tt) h),
+                    (λ h. raw-atan .number),
                     (
-                      (λ h. raw-cos .number),
+                      (λ h. sym angle-number-at ∙ angle-passed h),
                       (
-                        (λ h. sym sin-number-at ∙ passed 0x4380_0000 a (lit< tt) h),
+                        (λ h. raw-angle .number),
                         (
-                          (λ h. raw-sin .number),
+                          (λ h. sym cos-number-at ∙ passed 0x4380_0000 a (lit< tt) h),
                           (
-                            (λ h. sym hypot-number-at ∙ angle-passed h),
+                            (λ h. raw-cos .number),
                             (
-                              (λ h. raw-hypot .number),
-                              tt,
+                              (λ h. sym sin-number-at ∙ passed 0x4380_0000 a (lit< tt) h),
+                              ((λ h. raw-sin .number), ((λ h. sym hypot-number-at ∙ angle-passed h), ((λ h. raw-hypot .number), tt))),
                             ),
                           ),
                         ),
@@ -274,37 +334,43 @@ module _ (a b : ℕ) (k : a < 2 ^ 32) (l : b < 2 ^ 32) where
       known : operandsIn op ≡ 0 → ⊥
       known =
           listed (λ n. operandsIn n ≡ 0 → ⊥) op blocked h
-          (some 0, (some 0, (some 0, (some 0, (some 1, (some 1, (some 0, (some 0, (some 0, (some 0, (some 1, (some 1, tt))))))))))))
+          (some 0, (some 0, (some 0, (some 0, (some 0, (some 0, (some 0, (some 1, (some 1, (some 0, (some 0, (some 0, (some 0, (some 1, (some 1, tt)))))))))))))))
 
       go : (t : Bool) → eqb n 0 ≡ t → cond t w 0 ≡ wordAt op a b
       go true d = f h (sym e ∙ eqb-true n 0 d)
       go false d = sym (refused-is-zero op a b known k l (λ z. eqb-false n 0 d (e ∙ z)))
 
--- ---- the halves of the square root, whatever the second word is
+-- ---- the steps on the word itself, whatever the second word is
 
-pub root-has-blocks : (op : ℕ) → isRoot op ≡ true → hasBlocks op ≡ true
-root-has-blocks op r = listed (λ n. hasBlocks n ≡ true) op (0x09 ∷ 0x89 ∷ []) r (refl, (refl, tt))
+abbrev stepped : List ℕ
+stepped = 0x06 ∷ 0x09 ∷ 0x89 ∷ 0x0a ∷ 0x0b ∷ []
 
-pub half-answered : (op a b : ℕ) → isRoot op ≡ true → reach op a b ≡ true → Answered op a b (halfWord a)
-half-answered op a b r h = listed (λ n. reach n a b ≡ true → Answered n a b (halfWord a)) op (0x09 ∷ 0x89 ∷ []) r (positive, (unsigned, tt)) h
+pub bits-have-blocks : (op : ℕ) → onBits op ≡ true → hasBlocks op ≡ true
+bits-have-blocks op r = listed (λ n. hasBlocks n ≡ true) op stepped r (refl, (refl, (refl, (refl, (refl, tt)))))
+
+pub bits-answered : (op a b : ℕ) → a < 2 ^ 32 → onBits op ≡ true → reach op a b ≡ true → Answered op a b (bitsWord op a)
+bits-answered op a b k r h = alike op r (listed (λ n. reach n a 0 ≡ true → Answered n a 0 (bitsWord n a)) op stepped r (absolute, (positive, (unsigned, (inverse, (inverted, tt))))) (same-reach op r h))
   where
     one : _≡_ {A = ℕ} 1 2 → ⊥
     one e = suc-ne-zero 0 (sym (suc-inj e))
 
-    alike : (n : ℕ) → (operandsIn n ≡ 2 → ⊥) → Answered n a 0 (halfWord a) → Answered n a b (halfWord a)
-    alike n o p = record { number = same-number n o a b 0 ∙ p .number; word = same-word n o a b 0 ∙ p .word }
+    alike : (n : ℕ) → onBits n ≡ true → Answered n a 0 (bitsWord n a) → Answered n a b (bitsWord n a)
+    alike n r p = let o = listed (λ n. operandsIn n ≡ 2 → ⊥) n stepped r (one, (one, (one, (one, (one, tt))))) in record { number = same-number n o a b 0 ∙ p .number; word = same-word n o a b 0 ∙ p .word }
 
-    positive : (leb 0x0080_0000 a && ltb a 0x7f80_0000) ≡ true → Answered 0x09 a b (halfWord a)
-    positive h =
-        let f = both (leb 0x0080_0000 a) (ltb a 0x7f80_0000) h in
-        let p = leb-true 0x0080_0000 a (f .0) in
-        let g = ltb-true a 0x7f80_0000 (f .1) in
-        let m : magnitude binary32 a ≡ a = mod-eq-of-lt (omega (arith, g)) in
-        let q = root-answered a 0 (omega (arith, g)) (lit< tt) (in-reach a 0 (omega (arith, g)) (lit< tt) 0x09 h) in
-        alike 0x09 one (record { number = q .number; word = q .word ∙ rw (m, ne-eqb a 0 (λ (e : a ≡ 0). let z : ⊥ = omega (arith, e, p) in z)) })
+    same-reach : (n : ℕ) → onBits n ≡ true → reach n a b ≡ true → reach n a 0 ≡ true
+    same-reach n r = listed (λ n. reach n a b ≡ true → reach n a 0 ≡ true) n stepped r ((λ h. h), ((λ h. h), ((λ h. h), ((λ h. h), ((λ h. h), tt)))))
 
-    unsigned : leb a 0x7f80_0000 ≡ true → Answered 0x89 a b (halfWord a)
-    unsigned h =
-        let g = leb-true a 0x7f80_0000 h in
-        let q = raw-root a 0 (omega (arith, g)) (lit< tt) in
-        alike 0x89 one (record { number = q .number; word = q .word ∙ halved a g })
+    absolute : reach 0x06 a 0 ≡ true → Answered 0x06 a 0 (absWord binary32 a)
+    absolute h = abs-answered a 0 k (lit< tt) (in-reach a 0 k (lit< tt) 0x06 h)
+
+    positive : reach 0x09 a 0 ≡ true → Answered 0x09 a 0 (halfWord a)
+    positive h = let q = root-answered a 0 k (lit< tt) (in-reach a 0 k (lit< tt) 0x09 h) in record { number = q .number; word = q .word ∙ rw (not-zero a 0 k (lit< tt) h) }
+
+    unsigned : reach 0x89 a 0 ≡ true → Answered 0x89 a 0 (halfWord a)
+    unsigned h = let q = raw-root a 0 k (lit< tt) in record { number = q .number; word = q .word ∙ root-halved a (leb-true a 0x7f80_0000 h) }
+
+    inverse : reach 0x0a a 0 ≡ true → Answered 0x0a a 0 (invsqrtWord a)
+    inverse h = invsqrt-answered a 0 k (lit< tt) (in-reach a 0 k (lit< tt) 0x0a h)
+
+    inverted : reach 0x0b a 0 ≡ true → Answered 0x0b a 0 (invWord binary32 a)
+    inverted h = inv-answered a 0 k (lit< tt) (in-reach a 0 k (lit< tt) 0x0b h)

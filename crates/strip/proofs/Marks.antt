@@ -45,6 +45,9 @@ unsigned-told w a e h =
 pub numbers-told : (a b m n : ℕ) → (a < 2 ^ 31 → m ≤ 0x7f80_0000) → (b < 2 ^ 31 → n ≤ 0x7f80_0000) → bitOr a b < 2 ^ 31 → (m ≤ 0x7f80_0000) × (n ≤ 0x7f80_0000)
 numbers-told a b m n f g h = (f (or-left a b (2 ^ 31) h), g (or-right a b (2 ^ 31) h))
 
+pub range-told : (a b m : ℕ) → m < 2 ^ 31 → (a < 2 ^ 31 → m ≤ 0x7e80_0000) → b ≡ (m + 0xff80_0000) % 2 ^ 32 → bitOr a b < 2 ^ 31 → (0x0080_0000 ≤ m) × (m ≤ 0x7e80_0000)
+range-told a b m l f e h = let q = or-right a b (2 ^ 31) h in (omega (arith, q, e, l), f (or-left a b (2 ^ 31) h))
+
 or-true : (t : Bool) → (t || true) ≡ true
 or-true true = refl
 or-true false = refl

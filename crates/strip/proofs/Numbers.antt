@@ -1,4 +1,4 @@
--- The refusals of sqrt, atan, atan2, cos, sin and hypot by the sizes of their words: what the tests of a place come to. Assumes nothing.
+-- The refusals of abs, sqrt, invsqrt, inv, atan, atan2, cos, sin and hypot by the sizes of their words: what the tests of a place come to. Assumes nothing.
 use Prim.Native.Nat.{ℕ, _+_, _/_, _^_, _≤_, _<_, zero-le}
 use native.Mathlib.Nat.{le-trans, le-of-lt}
 use native.Mathlib.Omega.{arith}
@@ -8,9 +8,11 @@ use borrow.Author.Tests.{lt-ltb, le-ltb, le-leb, lt-leb, eq-eqb, ne-eqb, ltb-tru
 use lib.Dec.{leb, ltb, eqb, lit<}
 use lib.Ieee.{binary32, unlike}
 use Rattle.format.specs.Fields.{magnitude}
+use Rattle.format.specs.Classes.{isEndless, isZero, isSmall, isBelowZero}
+use Rattle.format.proofs.Classes.{zero-not-endless}
 use Rattle.format.proofs.Fields.{magnitude-lt}
-use Rattle.guard.specs.Operations.{opSqrt, opAtan, opAtan2, opCos, opSin, opHypot}
-use Rattle.guard.specs.Gates.{between, place, within, passes, larger, judged}
+use Rattle.guard.specs.Operations.{opAbs, opSqrt, opInvsqrt, opInv, opAtan, opAtan2, opCos, opSin, opHypot}
+use Rattle.guard.specs.Gates.{between, unbounded, place, within, passes, larger, judged}
 use Rattle.guard.specs.Refusals.{refusalBehind, refusalOf}
 use Rattle.strip.specs.Reach.{angleReach, sizeNumber}
 
@@ -90,11 +92,43 @@ module _ (w : ℕ) where
   unfolding refusalBehind judged
   sin-number-is = sized 0x4380_0000 (lit< tt)
 
+  pub abs-number-is : refusalOf opAbs w 0 ≡ sizeNumber 0x7fff_ffff w
+  unfolding refusalBehind judged
+  abs-number-is = sized 0x7fff_ffff (lit< tt)
+
   pub root-number-is : _≡_ {A = ℕ} (cond (leb 0x7f80_0000 m) 1 (cond (eqb m 0) 0 (cond (ltb m 0x0080_0000) 9 (cond (leb 0x8000_0000 w) 3 0)))) (refusalOf opSqrt w 0)
   unfolding refusalBehind judged
   root-number-is =
       zero-first (leb 0x7f80_0000 m) (eqb m 0) (ltb m 0x0080_0000) (leb 0x8000_0000 w)
       ∙ sym (rw (endless m lt, fieldless m, gated 0 0x7fff_ffff m (lit< tt) (lit< tt) lt, le-leb 0 m zero-le, le-leb m 0x7fff_ffff (omega (arith, lt))))
+
+module _ (w : ℕ) where
+  -- of a zero, which is neither endless nor small, invsqrt has a refusal of its own
+  pub invsqrt-number-is : cond (isZero binary32 w) 2 (refusalOf opSqrt w 0) ≡ refusalOf opInvsqrt w 0
+  unfolding refusalBehind judged
+  invsqrt-number-is = go (isZero binary32 w) refl
+    where
+      go : (z : Bool) → isZero binary32 w ≡ z
+          → cond z 2 (refusalOf opSqrt w 0) ≡ cond (isEndless binary32 w) 1 (cond z 2 (cond (isSmall binary32 w) 9 (cond (isBelowZero binary32 w) 3 (cond (not (passes unbounded (magnitude binary32 w))) 4 0))))
+      go true e = rw (zero-not-endless binary32 w e)
+      go false e = refl
+
+  -- a small number is not endless, so it does not matter which is asked for first
+  pub inv-number-is : cond (eqb (m w) 0) 2 (cond (ltb (m w) 0x0080_0000) 9 (sizeNumber 0x7e80_0000 w)) ≡ refusalOf opInv w 0
+  unfolding refusalBehind judged
+  inv-number-is =
+      apart (leb 0x7f80_0000 (m w)) (eqb (m w) 0) (ltb (m w) 0x0080_0000) (ltb 0x7e80_0000 (m w))
+      (λ h. let l = ltb-true (m w) 0x0080_0000 h in lt-leb 0x7f80_0000 (m w) (omega (arith, l)))
+      (λ h. lt-ltb (m w) 0x0080_0000 (let e = eqb-true (m w) 0 h in omega (arith, e)))
+      ∙ sym (rw (endless (m w) (lt w), fieldless (m w), gated 0 0x7e80_0000 (m w) (lit< tt) (lit< tt) (lt w), le-leb 0 (m w) zero-le, past (m w) 0x7e80_0000))
+    where
+      apart : (e z s p : Bool) → (s ≡ true → e ≡ false) → (z ≡ true → s ≡ true) → _≡_ {A = ℕ} (cond z 2 (cond s 9 (cond e 1 (cond p 4 0)))) (cond e 1 (cond z 2 (cond (s && not z) 9 (cond p 4 0))))
+      apart true true s p f g = absurd (false≢true (sym (f (g refl))))
+      apart true false true p f g = absurd (false≢true (sym (f refl)))
+      apart true false false p f g = refl
+      apart false true s p f g = refl
+      apart false false true p f g = refl
+      apart false false false p f g = refl
 
 -- the larger of two lies between two ends where neither is above the high one and one of them is not below the low one; by the tests that the
 -- smaller and the larger are no higher, and that they are no lower

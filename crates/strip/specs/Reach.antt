@@ -9,6 +9,8 @@ use lib.Dec.{leb, ltb, eqb}
 use lib.ListN.{length, getD}
 use lib.Ieee.{binary32}
 use Rattle.format.specs.Fields.{magnitude}
+use Rattle.format.specs.Sign.{absWord}
+use Rattle.format.specs.Estimates.{invWord, invsqrtWord}
 use Rattle.guard.specs.Operations.{among}
 
 -- a magnitude up to a limit
@@ -24,36 +26,42 @@ pub record AngleReach (y x : ℕ) : Type 0 where
   pub across : magnitude binary32 x ≤ 0x5e80_0000
   pub either : (0x2180_0000 ≤ magnitude binary32 y) ⊎ (0x2180_0000 ≤ magnitude binary32 x)
 
--- the operations that have blocks: sqrt, atan, atan2, cos, sin and hypot
+-- the operations that have blocks: abs, sqrt, invsqrt and inv, of which three guarded alone, and atan, atan2, cos, sin and hypot
 abbrev pub blocked : List ℕ
-blocked = 0x09 ∷ 0x89 ∷ 0x11 ∷ 0x91 ∷ 0x12 ∷ 0x92 ∷ 0x13 ∷ 0x93 ∷ 0x14 ∷ 0x94 ∷ 0x15 ∷ 0x95 ∷ []
+blocked = 0x06 ∷ 0x09 ∷ 0x89 ∷ 0x0a ∷ 0x0b ∷ 0x11 ∷ 0x91 ∷ 0x12 ∷ 0x92 ∷ 0x13 ∷ 0x93 ∷ 0x14 ∷ 0x94 ∷ 0x15 ∷ 0x95 ∷ []
 
 abbrev pub hasBlocks : ℕ → Bool
 hasBlocks = among blocked
 
--- sqrt of a positive normal number, and raw of a word without the sign that is no NaN; atan under 2 ^ 64; atan2 and hypot, and raw hypot of no
--- NaN; raw cos to 1024; cos and sin to 256
+-- abs of a finite number; sqrt and invsqrt of a positive normal one, and raw sqrt of a word without the sign that is no NaN; inv of a normal one
+-- up to 2 ^ 126; atan under 2 ^ 64; atan2 and hypot, and raw hypot of no NaN; raw cos to 1024; cos and sin to 256
 abbrev pub reach : ℕ → ℕ → ℕ → Bool
 reach op a b =
     hasBlocks op
-    && cond (eqb op 0x09) (leb 0x0080_0000 a && ltb a 0x7f80_0000)
+    && cond (eqb op 0x06) (upTo 0x7f7f_ffff a)
+    (cond (among (0x09 ∷ 0x0a ∷ []) op) (leb 0x0080_0000 a && ltb a 0x7f80_0000)
     (cond (eqb op 0x89) (leb a 0x7f80_0000)
+    (cond (eqb op 0x0b) (leb 0x0080_0000 (magnitude binary32 a) && upTo 0x7e80_0000 a)
     (cond (among (0x11 ∷ 0x91 ∷ []) op) (upTo 0x5f7f_ffff a)
     (cond (among (0x12 ∷ 0x92 ∷ 0x15 ∷ []) op) (angleReach a b)
     (cond (eqb op 0x95) (upTo 0x7f80_0000 a && upTo 0x7f80_0000 b)
     (cond (eqb op 0x93) (upTo 0x4480_0000 a)
-    (upTo 0x4380_0000 a))))))
+    (upTo 0x4380_0000 a))))))))
 
 -- of every place of two lists
 abbrev pub AllReach : ℕ → List ℕ → List ℕ → Type 0
 AllReach op first second = (i : ℕ) → i < length first → reach op (getD first i 0) (getD second i 0) ≡ true
 
--- the operations of the square root; and half of a word about that of 1, modulo 2 ^ 32
-abbrev pub isRoot : ℕ → Bool
-isRoot = among (0x09 ∷ 0x89 ∷ [])
-
+-- half of a word about that of 1, modulo 2 ^ 32
 abbrev pub halfWord : ℕ → ℕ
 halfWord w = (w + 0x3f80_0000) % 2 ^ 32 / 2
+
+-- the operations that are a step on the word itself, and that step
+abbrev pub onBits : ℕ → Bool
+onBits = among (0x06 ∷ 0x09 ∷ 0x89 ∷ 0x0a ∷ 0x0b ∷ [])
+
+abbrev pub bitsWord : ℕ → ℕ → ℕ
+bitsWord op w = cond (eqb op 0x06) (absWord binary32 w) (cond (eqb op 0x0a) (invsqrtWord w) (cond (eqb op 0x0b) (invWord binary32 w) (halfWord w)))
 
 -- the refusal of a gate that has a highest magnitude alone: 1 of an infinity or a NaN, 4 past it
 abbrev pub sizeNumber : ℕ → ℕ → ℕ

@@ -31,7 +31,7 @@ pub(crate) fn of_any(y: u32, x: u32) -> u32
     )
 }
 
-// The quotient, by the sizes: of these b has no sign to clear.
+// The quotient, by the sizes, so that no sign has to be cleared on the way.
 fn ratio(y: u32, x: u32) -> f32
     requires { ⌜ (nanBits binary32 y ≡ false) × (nanBits binary32 x ≡ false) ⌝ }
     ensures { λ r. ⌜ r ≡ ratio (ofBits binary32 y) (ofBits binary32 x) ⌝ }

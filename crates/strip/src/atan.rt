@@ -33,7 +33,7 @@ pub(crate) fn of_any(w: u32) -> u32
     )
 }
 
-// The quotient, by the size: of it b has no sign to clear.
+// The quotient, by the size, so that no sign has to be cleared on the way.
 fn slope(w: u32) -> f32
     requires { ⌜ nanBits binary32 w ≡ false ⌝ }
     ensures { λ r. ⌜ r ≡ firstQuadrant ieee (ofBits binary32 w) ⌝ }

@@ -1,18 +1,20 @@
 // A strip in blocks, for the operations whose steps are quick beside their tests. All words of a block
-// are judged at once, and where each is in reach the steps run alone; else each place has its tests. A
-// block's length is written out, so that its loops are compiled for it.
+// are judged at once, and where each is in reach the steps run alone; else the block is done by steps that
+// take any words. A block's length is written out, so that its loops are compiled for it.
 ghost use mathlib.Core.Path.{_≡_};
 ghost use mathlib.Core.Bool.{true};
 ghost use lib.ListN.{length};
 ghost use Rattle.strip.specs.Strip.{Fills, Agree};
-ghost use Rattle.strip.specs.Reach.{hasBlocks, isRoot, AllReach};
+ghost use Rattle.strip.specs.Reach.{hasBlocks, onBits, AllReach};
 use crate::quick;
 
 // The words of a block.
 const BLOCK: usize = 32;
 
-// Fills every place of lists that have one length, for the square root.
-pub(crate) fn fill_roots(
+// Fills every place of lists that have one length, for the kernels that are a step on the word itself:
+// abs, sqrt, invsqrt and inv. The operation is found here, before the blocks: beside so short a step the
+// way to it would be felt at each. Of three the raw form has no test to be spared.
+pub(crate) fn fill_bits(
     op: u32,
     first: &[u32],
     second: &[u32],
@@ -23,28 +25,36 @@ pub(crate) fn fill_roots(
     ensures { λ r. ⌜ Fills op (now (first .entry)) (now (second .entry)) (now (answers .exit)) (now (refusals .exit)) ⌝ }
 {
     match op {
-        0x09 => root_blocks(0x09, first, second, answers, refusals),
-        0x89 => root_blocks(0x89, first, second, answers, refusals),
+        0x06 => bit_blocks(0x06, first, second, answers, refusals),
+        0x09 => bit_blocks(0x09, first, second, answers, refusals),
+        0x89 => bit_blocks(0x89, first, second, answers, refusals),
+        0x0a => bit_blocks(0x0a, first, second, answers, refusals),
+        0x0b => bit_blocks(0x0b, first, second, answers, refusals),
+        0x86 => crate::fill(0x86, first, second, answers, refusals),
+        0x8a => crate::fill(0x8a, first, second, answers, refusals),
+        0x8b => crate::fill(0x8b, first, second, answers, refusals),
         _ => crate::fill(op, first, second, answers, refusals),
     }
 }
 
-fn root_blocks(op: u32, first: &[u32], second: &[u32], answers: &mut [u32], refusals: &mut [u32])
-    requires { ⌜ Agree (now first) (now second) (now answers) (now refusals) × (isRoot op ≡ true) ⌝ }
+// The same for one of them, block by block, and what is left behind the last block by steps that take any
+// words.
+fn bit_blocks(op: u32, first: &[u32], second: &[u32], answers: &mut [u32], refusals: &mut [u32])
+    requires { ⌜ Agree (now first) (now second) (now answers) (now refusals) × (onBits op ≡ true) ⌝ }
     ensures { λ r. ⌜ Fills op (now (first .entry)) (now (second .entry)) (now (answers .exit)) (now (refusals .exit)) ⌝ }
 {
     let count = first.len();
     let mut i: usize = 0;
     while count - i >= BLOCK {
         let end = i + BLOCK;
-        root_block(
+        bit_block(
             op,
             &first[i..end],
             &second[i..end],
             &mut answers[i..end],
             &mut refusals[i..end],
         );
-        i = end;
+        i = i + BLOCK;
     }
     each(
         op,
@@ -55,16 +65,17 @@ fn root_blocks(op: u32, first: &[u32], second: &[u32], answers: &mut [u32], refu
     );
 }
 
-fn root_block(op: u32, first: &[u32], second: &[u32], answers: &mut [u32], refusals: &mut [u32])
-    requires { ⌜ Agree (now first) (now second) (now answers) (now refusals) × (isRoot op ≡ true) ⌝ }
+// The same for a block: filled by the step alone, and again where that is not the answer at every place.
+fn bit_block(op: u32, first: &[u32], second: &[u32], answers: &mut [u32], refusals: &mut [u32])
+    requires { ⌜ Agree (now first) (now second) (now answers) (now refusals) × (onBits op ≡ true) ⌝ }
     ensures { λ r. ⌜ Fills op (now (first .entry)) (now (second .entry)) (now (answers .exit)) (now (refusals .exit)) ⌝ }
 {
-    if !roots(op, first, second, answers, refusals) {
+    if !try_bits(op, first, second, answers, refusals) {
         each(op, first, second, answers, refusals);
     }
 }
 
-// Fills every place of lists that have one length.
+// Fills every place of lists that have one length, for the other kernels that have blocks.
 pub(crate) fn fill(
     op: u32,
     first: &[u32],
@@ -78,15 +89,15 @@ pub(crate) fn fill(
     let count = first.len();
     let mut i: usize = 0;
     while count - i >= BLOCK {
-        let end = i + BLOCK;
+        let to = i + BLOCK;
         block(
             op,
-            &first[i..end],
-            &second[i..end],
-            &mut answers[i..end],
-            &mut refusals[i..end],
+            &first[i..to],
+            &second[i..to],
+            &mut answers[i..to],
+            &mut refusals[i..to],
         );
-        i = end;
+        i = i + BLOCK;
     }
     rest(
         op,
@@ -239,17 +250,23 @@ fn each(op: u32, first: &[u32], second: &[u32], answers: &mut [u32], refusals: &
     }
 }
 
-// Fills every place with half of its word about that of 1, and none refused, and says whether that is
-// the square root at each: a half needs no test, and to judge while halving is quicker than before.
-fn roots(op: u32, first: &[u32], second: &[u32], answers: &mut [u32], refusals: &mut [u32]) -> bool
-    requires { ⌜ Agree (now first) (now second) (now answers) (now refusals) × (isRoot op ≡ true) ⌝ }
+// Fills every place by the step on its word, with nothing refused, and says whether that is so: every word
+// bears the step, and to judge beside it is quicker than before it.
+fn try_bits(
+    op: u32,
+    first: &[u32],
+    second: &[u32],
+    answers: &mut [u32],
+    refusals: &mut [u32],
+) -> bool
+    requires { ⌜ Agree (now first) (now second) (now answers) (now refusals) × (onBits op ≡ true) ⌝ }
     ensures { λ r. ⌜ (r ≡ true → Fills op (now (first .entry)) (now (second .entry)) (now (answers .exit)) (now (refusals .exit))) ⌝ }
 {
     let mut marks: u32 = 0;
     let mut i: usize = 0;
     while i < first.len() {
         let w = first[i];
-        answers[i] = quick::half(w);
+        answers[i] = quick::bits(op, w);
         refusals[i] = 0;
         marks = marks | quick::mark(op, w, second[i]);
         i = i + 1;

@@ -9,14 +9,12 @@ ghost use lib.Ieee.{binary32, fits, isNan, toBits};
 ghost use Rattle.format.specs.Fields.{magnitude};
 ghost use Rattle.float.specs.Engine.{ieee, absOf, floorOf};
 ghost use Rattle.float.specs.Cos.{cosWord, sinWord};
+use float::cos::MENDS;
 use float::cos::TURN;
 use float::steps::FRAC_PI_2;
 
 // 3 * 2^22: with a small number added it lies between 2^23 and 2^24, where numbers are 1 apart.
 const SHIFT: f32 = 12582912.0;
-
-// The share of the parabola's own square that mends it.
-const MENDS: f32 = 0.225;
 
 // For a size up to 1024.
 pub(crate) fn cos(w: u32) -> u32

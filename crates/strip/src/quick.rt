@@ -11,10 +11,10 @@ ghost use Rattle.float.specs.Engine.{ieee};
 ghost use Rattle.float.specs.Atan2.{atan2Word};
 ghost use Rattle.float.specs.Cos.{cosWord, sinWord};
 ghost use Rattle.float.specs.Hypot.{hypotWord};
-ghost use Rattle.guard.specs.Operations.{opSqrt, opAtan2};
+ghost use Rattle.guard.specs.Operations.{opSqrt, opInvsqrt, opInv, opAtan2};
 ghost use Rattle.guard.specs.Refusals.{refusalOf};
 ghost use Rattle.strip.specs.Strip.{wordAt, refusalAt};
-ghost use Rattle.strip.specs.Reach.{angleReach, hasBlocks, reach, halfWord, sizeNumber};
+ghost use Rattle.strip.specs.Reach.{angleReach, hasBlocks, reach, halfWord, bitsWord, sizeNumber};
 use crate::angle;
 use crate::atan;
 use crate::choice;
@@ -25,6 +25,25 @@ use float::cos;
 use float::wrap;
 use guard::refusal;
 
+// The word of the smallest normal number, and of the infinity.
+const NORMAL: u32 = 0x0080_0000;
+
+const INFINITY: u32 = 0x7f80_0000;
+
+// The ends of the gates: inv to 2^126, atan under 2^64, atan2 and hypot from 2^-60 to 2^62, cos and sin to
+// 256; and how far the steps of raw cos go.
+const INV_END: u32 = 0x7e80_0000;
+
+const ATAN_END: u32 = 0x5f7f_ffff;
+
+const PAIR_START: u32 = 0x2180_0000;
+
+const PAIR_END: u32 = 0x5e80_0000;
+
+const COS_END: u32 = 0x4380_0000;
+
+const RAW_COS_END: u32 = 0x4480_0000;
+
 // ---- the test
 
 // A word whose highest bit is clear only where the steps alone are the kernel's. Marks that are or-ed
@@ -33,16 +52,19 @@ pub(crate) fn mark(op: u32, a: u32, b: u32) -> u32
     ensures { λ r. ⌜ (r < 2 ^ 31 → reach op a b ≡ true) ⌝ }
 {
     match op {
+        0x06 => size_mark(a, 0x7f7f_ffff),
         0x09 => normal_mark(a),
         0x89 => unsigned_mark(a),
-        0x11 => size_mark(a, 0x5f7f_ffff),
-        0x91 => size_mark(a, 0x5f7f_ffff),
+        0x0a => normal_mark(a),
+        0x0b => range_mark(a),
+        0x11 => size_mark(a, ATAN_END),
+        0x91 => size_mark(a, ATAN_END),
         0x12 => angle_mark(a, b),
         0x92 => angle_mark(a, b),
-        0x13 => size_mark(a, 0x4380_0000),
-        0x93 => size_mark(a, 0x4480_0000),
-        0x14 => size_mark(a, 0x4380_0000),
-        0x94 => size_mark(a, 0x4380_0000),
+        0x13 => size_mark(a, COS_END),
+        0x93 => size_mark(a, RAW_COS_END),
+        0x14 => size_mark(a, COS_END),
+        0x94 => size_mark(a, COS_END),
         0x15 => angle_mark(a, b),
         0x95 => numbers_mark(a, b),
         _ => 0x8000_0000,
@@ -64,6 +86,13 @@ fn unsigned_mark(w: u32) -> u32
     w | wrap::sum(w, 0x007f_ffff)
 }
 
+// Of magnitudes from that of the smallest normal number to 2^126.
+fn range_mark(w: u32) -> u32
+    ensures { λ r. ⌜ (r < 2 ^ 31 → (0x0080_0000 ≤ magnitude binary32 w) × (magnitude binary32 w ≤ 0x7e80_0000)) ⌝ }
+{
+    size_mark(w, INV_END) | wrap::sum(F32(w).without_sign().0, 0xff80_0000)
+}
+
 // Of magnitudes up to a limit.
 fn size_mark(w: u32, limit: u32) -> u32
     requires { ⌜ limit < 2 ^ 31 ⌝ }
@@ -78,6 +107,7 @@ fn angle_mark(y: u32, x: u32) -> u32
 {
     let height = F32(y).without_sign().0;
     let across = F32(x).without_sign().0;
+    // the first sums reach 2^31 past the end, and the others from the start on
     let above = (height + 0x217f_ffff) | (across + 0x217f_ffff);
     above | !((height + 0x5e80_0000) | (across + 0x5e80_0000))
 }
@@ -86,7 +116,7 @@ fn angle_mark(y: u32, x: u32) -> u32
 fn numbers_mark(a: u32, b: u32) -> u32
     ensures { λ r. ⌜ (r < 2 ^ 31 → (magnitude binary32 a ≤ 0x7f80_0000) × (magnitude binary32 b ≤ 0x7f80_0000)) ⌝ }
 {
-    size_mark(a, 0x7f80_0000) | size_mark(b, 0x7f80_0000)
+    size_mark(a, INFINITY) | size_mark(b, INFINITY)
 }
 
 // ---- the steps alone
@@ -97,8 +127,11 @@ pub(crate) fn word(op: u32, a: u32, b: u32) -> u32
     ensures { λ r. ⌜ (r ≡ wordAt op a b) × (refusalAt op a b ≡ 0) ⌝ }
 {
     match op {
-        0x09 => half(a),
-        0x89 => half(a),
+        0x06 => bits(0x06, a),
+        0x09 => bits(0x09, a),
+        0x89 => bits(0x89, a),
+        0x0a => bits(0x0a, a),
+        0x0b => bits(0x0b, a),
         0x11 => atan::within_gate(a),
         0x91 => atan::within_gate(a),
         0x12 => angle::within_gate(a, b),
@@ -113,8 +146,20 @@ pub(crate) fn word(op: u32, a: u32, b: u32) -> u32
     }
 }
 
-// Half of a word about that of 1: the square root, in reach.
-pub(crate) fn half(w: u32) -> u32
+// The kernels that are a step on the word itself, which every word bears: abs, sqrt in reach, invsqrt and inv.
+pub(crate) fn bits(op: u32, w: u32) -> u32
+    ensures { λ r. ⌜ (r ≡ bitsWord op w) × (w < 2 ^ 32) ⌝ }
+{
+    match op {
+        0x06 => F32(w).abs().0,
+        0x0a => F32(w).invsqrt().0,
+        0x0b => F32(w).inv().0,
+        _ => half(w),
+    }
+}
+
+// Half of a word about that of 1.
+fn half(w: u32) -> u32
     ensures { λ r. ⌜ r ≡ halfWord w ⌝ }
 {
     wrap::sum(w, F32::ONE.0) >> 1
@@ -128,15 +173,18 @@ pub(crate) fn number(op: u32, a: u32, b: u32) -> u32
     ensures { λ r. ⌜ r ≡ refusalAt op a b ⌝ }
 {
     match op {
+        0x06 => size_number(a, 0x7fff_ffff),
         0x09 => root_number(a),
         0x89 => 0,
-        0x11 => size_number(a, 0x5f7f_ffff),
+        0x0a => invsqrt_number(a),
+        0x0b => inv_number(a),
+        0x11 => size_number(a, ATAN_END),
         0x91 => 0,
         0x12 => angle_number(a, b),
         0x92 => 0,
-        0x13 => size_number(a, 0x4380_0000),
+        0x13 => size_number(a, COS_END),
         0x93 => 0,
-        0x14 => size_number(a, 0x4380_0000),
+        0x14 => size_number(a, COS_END),
         0x94 => 0,
         0x15 => angle_number(a, b),
         0x95 => 0,
@@ -150,9 +198,25 @@ fn root_number(w: u32) -> u32
 {
     let size = F32(w).without_sign().0;
     let below = choice::either(w >= 0x8000_0000, 3, 0);
-    let small = choice::either(size < 0x0080_0000, 9, below);
+    let small = choice::either(size < NORMAL, 9, below);
     let some = choice::either(size == 0, 0, small);
-    choice::either(size >= 0x7f80_0000, 1, some)
+    choice::either(size >= INFINITY, 1, some)
+}
+
+// Of invsqrt: the same, and 2 of a zero.
+fn invsqrt_number(w: u32) -> u32
+    ensures { λ r. ⌜ r ≡ refusalOf opInvsqrt w 0 ⌝ }
+{
+    choice::either(refusal::is_zero(F32(w)), 2, root_number(w))
+}
+
+// Of inv: 1 of an infinity or a NaN, 2 of a zero, 9 of a small number, 4 past the gate.
+fn inv_number(w: u32) -> u32
+    ensures { λ r. ⌜ r ≡ refusalOf opInv w 0 ⌝ }
+{
+    let size = F32(w).without_sign().0;
+    let small = choice::either(size < NORMAL, 9, size_number(w, INV_END));
+    choice::either(size == 0, 2, small)
 }
 
 // Of atan2 and hypot: 1 where either is an infinity or a NaN, 4 past the gate.
@@ -162,11 +226,7 @@ fn angle_number(y: u32, x: u32) -> u32
     let height = F32(y).without_sign().0;
     let across = F32(x).without_sign().0;
     let outside = choice::either(angle_inside(y, x), 0, 4);
-    choice::either(
-        (height >= 0x7f80_0000) | (across >= 0x7f80_0000),
-        1,
-        outside,
-    )
+    choice::either((height >= INFINITY) | (across >= INFINITY), 1, outside)
 }
 
 // Whether the gate of atan2 and hypot takes two words.
@@ -175,8 +235,8 @@ fn angle_inside(y: u32, x: u32) -> bool
 {
     let height = F32(y).without_sign().0;
     let across = F32(x).without_sign().0;
-    let above = (height >= 0x2180_0000) | (across >= 0x2180_0000);
-    (height <= 0x5e80_0000) & (across <= 0x5e80_0000) & above
+    let above = (height >= PAIR_START) | (across >= PAIR_START);
+    (height <= PAIR_END) & (across <= PAIR_END) & above
 }
 
 // Of a kernel whose gate has a highest magnitude alone: 1 of an infinity or a NaN, 4 past it.
@@ -185,7 +245,7 @@ fn size_number(w: u32, limit: u32) -> u32
 {
     let size = F32(w).without_sign().0;
     let outside = choice::either(size > limit, 4, 0);
-    choice::either(size >= 0x7f80_0000, 1, outside)
+    choice::either(size >= INFINITY, 1, outside)
 }
 
 // The word that stands beside the refusal.
@@ -201,8 +261,11 @@ fn any(op: u32, a: u32, b: u32) -> u32
     ensures { λ r. ⌜ (hasBlocks op ≡ true → refusalAt op a b ≡ 0 → r ≡ wordAt op a b) ⌝ }
 {
     match op {
+        0x06 => bits(0x06, a),
         0x09 => root(a),
         0x89 => F32(a).sqrt().0,
+        0x0a => bits(0x0a, a),
+        0x0b => bits(0x0b, a),
         0x11 => atan::of_any(a),
         0x91 => atan::of_any(a),
         0x12 => guarded_angle(a, b),
@@ -250,14 +313,14 @@ fn guarded_hypot(a: u32, b: u32) -> u32
 fn within(w: u32) -> u32
     ensures { λ r. ⌜ r ≡ cond (leb (magnitude binary32 w) 0x4380_0000) w 0 ⌝ }
 {
-    choice::either(F32(w).without_sign().0 <= 0x4380_0000, w, 0)
+    choice::either(F32(w).without_sign().0 <= COS_END, w, 0)
 }
 
 // cos of any word.
 fn raw_cos(w: u32) -> u32
     ensures { λ r. ⌜ r ≡ cosWord ieee w ⌝ }
 {
-    if F32(w).without_sign().0 <= 0x4480_0000 {
+    if F32(w).without_sign().0 <= RAW_COS_END {
         return cosine::cos(w);
     }
     cos::of_word(w)
@@ -267,7 +330,7 @@ fn raw_cos(w: u32) -> u32
 fn raw_sin(w: u32) -> u32
     ensures { λ r. ⌜ r ≡ sinWord ieee w ⌝ }
 {
-    if F32(w).without_sign().0 <= 0x4380_0000 {
+    if F32(w).without_sign().0 <= COS_END {
         return cosine::sin(w);
     }
     F32(w).sin().0

@@ -82,6 +82,7 @@ fill-spec =
     (λ c. omega arith)
     (λ c. rw (numbers (c .before .before .before .before)) (room (c .before .before .before .before) (c .before .before .before .loop-test .taken)))
     (λ c κs. part-agrees _ (start (c .before .before .before .before .before) .pre) _ _ (c .before .before .before .before .before .loop .inv) (let z : i (c .before .before .before .before .before) ≤ i (c .before .before .before .before .before) + 32 = omega arith in z) (room (c .before .before .before .before .before) (c .before .before .before .before .loop-test .taken)))
+    (λ c. record { fits = omega (arith, room (c .before .before .before .before .before .before .before .before .before .before) (c .before .before .before .before .before .before .before .before .before .loop-test .taken), start (c .before .before .before .before .before .before .before .before .before .before) .good .1 .0 .0) })
     (λ c. omega (arith, room (c .before .before .before .before .before .before .before .before .before .before) (c .before .before .before .before .before .before .before .before .before .loop-test .taken)))
     (λ c. next-block _ (start (c .before .before .before .before .before .before .before .before .before .before) .pre) _ _ (c .before .before .before .before .before .before .before .before .before .before .loop .inv) (let z : i (c .before .before .before .before .before .before .before .before .before .before) ≤ i (c .before .before .before .before .before .before .before .before .before .before) + 32 = omega arith in z) (room (c .before .before .before .before .before .before .before .before .before .before) (c .before .before .before .before .before .before .before .before .before .loop-test .taken)) (c .before .before .before .before .block .ensures))
     (λ c. record { fits = scaled (c .before) })

@@ -2,7 +2,7 @@
 use borrow.Author.Needs.{needs}
 use native.Mathlib.Nat.{le-trans}
 use lib.Dec.{lit≤}
-use Rattle.strip.proofs.InReach.{pair-reach, read-number}
+use Rattle.strip.proofs.InReach.{pair-reach, no-nan}
 use Rattle.strip.proofs.quick.guarded_hypot.Statement.{statement}
 use Rattle.strip.proofs.quick.guarded_hypot.Tie as tie
 
@@ -15,6 +15,6 @@ guarded-hypot-spec =
     (λ c κs.
     let a = c .before .before .before .args in
     let r = pair-reach (a .a) (a .b) in
-    rw (c .before .either .ensures, c .either2 .ensures, c .before .before .angle-inside .ensures) (read-number _ (le-trans (r .height) (lit≤ tt)), read-number _ (le-trans (r .across) (lit≤ tt))))
+    rw (c .before .either .ensures, c .either2 .ensures, c .before .before .angle-inside .ensures) (no-nan _ (le-trans (r .height) (lit≤ tt)), no-nan _ (le-trans (r .across) (lit≤ tt))))
     (λ c. cc) in
     tie.close met

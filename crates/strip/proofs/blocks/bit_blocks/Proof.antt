@@ -1,4 +1,4 @@
--- `strip::blocks::root_blocks` meets its contract: the blocks and what is left behind them are the strip. Assumes nothing.
+-- `strip::blocks::bit_blocks` meets its contract: the blocks and what is left behind them are the strip. Assumes nothing.
 use borrow.Author.Needs.{needs}
 use Prim.Native.Nat.{ℕ, _+_, _-_, _*_, _^_, _≤_, _<_}
 use native.Mathlib.Nat.{le-refl, le-of-eq}
@@ -8,11 +8,11 @@ use mathlib.Core.List.{List}
 use borrow.Rule.Slice.PartMut.{putMid}
 use lib.ListN.{length}
 use denote.Ref.{now}
-use Rattle.strip.proofs.InReach.{root-has-blocks}
+use Rattle.strip.proofs.InReach.{bits-have-blocks}
 use Rattle.strip.proofs.Sofar.{Sofar, none-filled, words-long, numbers-long, filled}
 use Rattle.strip.proofs.InBlocks.{part-agrees, next-block}
-use Rattle.strip.proofs.blocks.root_blocks.Statement.{statement}
-use Rattle.strip.proofs.blocks.root_blocks.Tie as tie
+use Rattle.strip.proofs.blocks.bit_blocks.Statement.{statement}
+use Rattle.strip.proofs.blocks.bit_blocks.Tie as tie
 
 abbrev Inv-loop : tie.InvT-loop
 Inv-loop op first second answers₀ refusals₀ count i₀ answers refusals i = Sofar op first second answers₀ refusals₀ answers refusals i
@@ -58,8 +58,8 @@ module _ (c : tie.After-slice-known6 Inv-loop μ-loop) where
       (putMid (i left) (length (first left) - i left) (left .loop .answers) (c .before .before .before .before .each .last .1 .1 .1 .0)) (putMid (i left) (length (first left) - i left) (left .loop .refusals) (c .before .before .before .before .each .last .1 .1 .1 .1 .0)) (length (first left))
   all-done = next-block _ (start left .pre .0) _ _ (left .loop .inv) (left .loop .inv .within) (le-refl _) (c .before .before .before .before .each .ensures)
 
-pub root-blocks-spec : {M : Type 1} → statement M
-root-blocks-spec =
+pub bit-blocks-spec : {M : Type 1} → statement M
+bit-blocks-spec =
     let met = tie.spec
     Inv-loop
     μ-loop
@@ -83,8 +83,9 @@ root-blocks-spec =
     (λ c. omega arith)
     (λ c. rw (numbers (c .before .before .before .before)) (room (c .before .before .before .before) (c .before .before .before .loop-test .taken)))
     (λ c κs. (part-agrees _ (start (c .before .before .before .before .before) .pre .0) _ _ (c .before .before .before .before .before .loop .inv) (let z : i (c .before .before .before .before .before) ≤ i (c .before .before .before .before .before) + 32 = omega arith in z) (room (c .before .before .before .before .before) (c .before .before .before .before .loop-test .taken)), start (c .before .before .before .before .before) .pre .1))
+    (λ c. record { fits = omega (arith, room (c .before .before .before .before .before .before .before .before .before .before) (c .before .before .before .before .before .before .before .before .before .loop-test .taken), start (c .before .before .before .before .before .before .before .before .before .before) .good .1 .0 .0) })
     (λ c. omega (arith, room (c .before .before .before .before .before .before .before .before .before .before) (c .before .before .before .before .before .before .before .before .before .loop-test .taken)))
-    (λ c. next-block _ (start (c .before .before .before .before .before .before .before .before .before .before) .pre .0) _ _ (c .before .before .before .before .before .before .before .before .before .before .loop .inv) (let z : i (c .before .before .before .before .before .before .before .before .before .before) ≤ i (c .before .before .before .before .before .before .before .before .before .before) + 32 = omega arith in z) (room (c .before .before .before .before .before .before .before .before .before .before) (c .before .before .before .before .before .before .before .before .before .loop-test .taken)) (c .before .before .before .before .root-block .ensures))
+    (λ c. next-block _ (start (c .before .before .before .before .before .before .before .before .before .before) .pre .0) _ _ (c .before .before .before .before .before .before .before .before .before .before .loop .inv) (let z : i (c .before .before .before .before .before .before .before .before .before .before) ≤ i (c .before .before .before .before .before .before .before .before .before .before) + 32 = omega arith in z) (room (c .before .before .before .before .before .before .before .before .before .before) (c .before .before .before .before .before .before .before .before .before .loop-test .taken)) (c .before .before .before .before .bit-block .ensures))
     (λ c. record { fits = scaled (c .before) })
     (λ c. c .before .loop .inv .within)
     (λ c. c .before .loop .inv .within)
@@ -101,7 +102,7 @@ root-blocks-spec =
     (λ c. c .before .before .before .before .loop .inv .within)
     (λ c. c .before .before .before .before .loop .inv .within)
     (λ c. le-of-eq (sym (numbers (c .before .before .before .before))))
-    (λ c κs. (part-agrees _ (start (c .before .before .before .before .before) .pre .0) _ _ (c .before .before .before .before .before .loop .inv) (c .before .before .before .before .before .loop .inv .within) (le-refl _), root-has-blocks (start (c .before .before .before .before .before) .args .op) (start (c .before .before .before .before .before) .pre .1)))
+    (λ c κs. (part-agrees _ (start (c .before .before .before .before .before) .pre .0) _ _ (c .before .before .before .before .before .loop .inv) (c .before .before .before .before .before .loop .inv .within) (le-refl _), bits-have-blocks (start (c .before .before .before .before .before) .args .op) (start (c .before .before .before .before .before) .pre .1)))
     (λ c. words-long _ (start (c .before .before .before .before .before .before .before .before .before .before) .pre .0) _ (all-done c) ∙ sym (start (c .before .before .before .before .before .before .before .before .before .before) .pre .0 .words))
     (λ c. numbers-long _ (start (c .before .before .before .before .before .before .before .before .before .before) .pre .0) _ (all-done c) ∙ sym (start (c .before .before .before .before .before .before .before .before .before .before) .pre .0 .numbers))
     (λ c. filled _ (start (c .before .before .before .before .before .before .before .before .before .before) .pre .0) _ (all-done c) (le-refl _)) in

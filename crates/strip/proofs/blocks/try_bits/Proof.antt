@@ -1,4 +1,4 @@
--- `strip::blocks::roots` meets its contract: as long as the or-ed marks' highest bit is clear, the halves so far are the square roots. Assumes
+-- `strip::blocks::try_bits` meets its contract: as long as the or-ed marks' highest bit is clear, the steps on the words so far are the answers. Assumes
 -- nothing.
 use borrow.Author.Needs.{needs}
 use Prim.Native.Nat.{ℕ, _+_, _-_, _^_, _≤_, _<_}
@@ -8,10 +8,10 @@ use mathlib.Core.List.{List}
 use borrow.Author.Tests.{ltb-true}
 use lib.ListN.{length, length-set}
 use Rattle.strip.proofs.Marks.{or-left, or-right}
-use Rattle.strip.proofs.InReach.{half-answered}
+use Rattle.strip.proofs.InReach.{bits-answered}
 use Rattle.strip.proofs.Sofar.{Sofar, none-filled, next-filled, filled}
-use Rattle.strip.proofs.blocks.roots.Statement.{statement}
-use Rattle.strip.proofs.blocks.roots.Tie as tie
+use Rattle.strip.proofs.blocks.try_bits.Statement.{statement}
+use Rattle.strip.proofs.blocks.try_bits.Tie as tie
 
 abbrev Inv-loop : tie.InvT-loop
 Inv-loop op first second answers₀ refusals₀ marks₀ i₀ answers refusals marks i =
@@ -30,15 +30,15 @@ loop-again c =
     let l = t .before in
     let s = start l in (
       omega (arith, t .loop-test .taken),
-      length-set (l .loop .answers) (l .loop .i) (c .before .before .half .result) ∙ l .loop .inv .1,
+      length-set (l .loop .answers) (l .loop .i) (c .before .before .bits .result) ∙ l .loop .inv .1,
       length-set (l .loop .refusals) (l .loop .i) 0 ∙ l .loop .inv .2,
       λ h.
-          let p = half-answered (s .args .op) _ _ (s .pre .1) (c .mark .ensures (or-right (l .loop .marks) (c .mark .result) (2 ^ 31) h)) in
-          next-filled _ (s .pre .0) _ (l .loop .inv .3 (or-left (l .loop .marks) (c .mark .result) (2 ^ 31) h)) _ _ (t .loop-test .taken) (c .before .before .half .ensures ∙ sym (p .word)) (sym (p .number)),
+          let p = bits-answered (s .args .op) _ _ (c .before .before .bits .ensures .1) (s .pre .1) (c .mark .ensures (or-right (l .loop .marks) (c .mark .result) (2 ^ 31) h)) in
+          next-filled _ (s .pre .0) _ (l .loop .inv .3 (or-left (l .loop .marks) (c .mark .result) (2 ^ 31) h)) _ _ (t .loop-test .taken) (c .before .before .bits .ensures .0 ∙ sym (p .word)) (sym (p .number)),
     )
 
-pub roots-spec : {M : Type 1} → statement M
-roots-spec =
+pub try-bits-spec : {M : Type 1} → statement M
+try-bits-spec =
     let met = tie.spec
     Inv-loop
     μ-loop
