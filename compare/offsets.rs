@@ -8,22 +8,40 @@ use crate::sweep::{blocks, Count};
 use crate::words::Random;
 use std::ops::Range;
 
-/// The words of a block, and the kernels, raw and guarded, that are done in blocks.
+/// The words of a block, and the numbers of the operations that are done in blocks: those whose steps are quick beside their tests,
+/// which a block of clean words is spared. Raw abs, invsqrt and inv have no test, and so no blocks.
 const BLOCK: usize = 32;
-const IN_BLOCKS: [&str; 3] = ["sqrt", "atan2", "cos"];
+const IN_BLOCKS: [u32; 15] = [0x06, 0x09, 0x0a, 0x0b, 0x11, 0x12, 0x13, 0x14, 0x15, 0x89, 0x91, 0x92, 0x93, 0x94, 0x95];
+
+/// The kernels of one operand, raw and guarded, of which a run with `every` tries each word at each offset, which takes 32 times as
+/// long as at one; the others have each word at one offset.
+const AT_EACH_OFFSET: [&str; 2] = ["sqrt", "cos"];
 
 /// The longest strip that a special word is put into, and the longest in which it stands at each place.
 const LONGEST: usize = 130;
 const AT_EACH_PLACE: usize = 70;
 
-/// Where the gates of these kernels and the kinds of numbers begin or end, without a sign: zero, the normal numbers, 2^-60, 256,
-/// 2^62, 2^64, whose square is infinite, and infinity.
-const ENDS: [u32; 7] = [0x0000_0000, 0x0080_0000, 0x2180_0000, 0x4380_0000, 0x5e80_0000, 0x5f80_0000, 0x7f80_0000];
+/// The first and the last words, without a sign, that a block may do without a test, guarded unless it says raw.
+const ENDS: [u32; 10] = [
+    0x0000_0000, // raw sqrt from here
+    0x0080_0000, // sqrt, invsqrt and inv from the smallest normal number
+    0x2180_0000, // atan2, raw atan2 and hypot from 2^-60 in one of the two
+    0x4380_0000, // cos, sin and raw sin to 256
+    0x4480_0000, // raw cos to 1024
+    0x5e80_0000, // atan2, raw atan2 and hypot to 2^62
+    0x5f7f_ffff, // atan and raw atan to the word below 2^64
+    0x7e80_0000, // inv to 2^126
+    0x7f7f_ffff, // abs, sqrt and invsqrt to the last finite number
+    0x7f80_0000, // raw sqrt and raw hypot to the infinity
+];
 
 /// These ends and the words next to them, and a quiet NaN, each of either sign.
 fn specials() -> Vec<u32> {
     let about = ENDS.iter().flat_map(|end| [end.wrapping_sub(1), *end, end + 1]);
-    about.chain([NAN]).flat_map(|word| [word, word ^ 0x8000_0000]).collect()
+    let mut words: Vec<u32> = about.chain([NAN]).flat_map(|word| [word, word ^ 0x8000_0000]).collect();
+    words.sort_unstable();
+    words.dedup();
+    words
 }
 
 /// What becomes of the words at a place, given a special word and another.
@@ -31,6 +49,14 @@ type Put = fn((u32, u32), u32, u32) -> (u32, u32);
 
 /// The special word for the first, for the second, and the two for both.
 const PUTS: [Put; 3] = [|(_, b), special, _| (special, b), |(a, _), special, _| (a, special), |_, special, other| (special, other)];
+
+/// Those for a kernel that takes these: a second word stays as it is where it is not used, or a power in two's complement.
+pub fn puts(takes: Takes) -> &'static [Put] {
+    match takes {
+        Takes::One | Takes::Power => &PUTS[..1],
+        Takes::Two | Takes::FloatPower | Takes::Divisor => &PUTS,
+    }
+}
 
 /// What the single call gives for the words at a place.
 fn alone(kernel: &Kernel, (a, b): (u32, u32)) -> u64 {
@@ -61,7 +87,7 @@ impl Short<'_> {
 /// last of each block, and then with a second one at any place.
 fn among_clean((op, kernel): &(u32, Kernel), length: usize) -> Count {
     let (mut count, mut random, specials) = (Count::default(), Random::new(length as u64), specials());
-    let puts = if kernel.takes == Takes::One { &PUTS[..1] } else { &PUTS };
+    let puts = puts(kernel.takes);
     let words = clean(kernel.name, length);
     let due = words.iter().map(|words| alone(kernel, *words)).collect();
     let clean = Short { op: *op, kernel, words, due };
@@ -164,8 +190,9 @@ fn sweep(label: &str, known: &(u32, Kernel), len: u64, offsets: u64, at: impl Fn
     all
 }
 
-/// Every word of a kernel of one operand: in order, so that nearly each block is all clean or all special; then with words from all
-/// over in its block, so that nearly each has both; and then some of them, each as the only one in its block that may be special.
+/// Every word of a kernel of one operand: of sqrt and cos in order, so that nearly each block is all clean or all special; then with
+/// words from all over in its block, so that many have both; and then some of them, each as the only one in its block that may be
+/// special.
 fn words(known: &(u32, Kernel), report: &mut impl FnMut(&str, Count)) {
     const ALL: u64 = 1 << 32;
     const STRIDE: u64 = 61;
@@ -175,7 +202,9 @@ fn words(known: &(u32, Kernel), report: &mut impl FnMut(&str, Count)) {
         // a second word is not used, and is any
         report(&label, sweep(&label, known, len, offsets, |number, random| (at(number), random.word())));
     };
-    done("every word at every offset of a block", ALL, block, &|number| number as u32);
+    if AT_EACH_OFFSET.contains(&known.1.name) {
+        done("every word at every offset of a block", ALL, block, &|number| number as u32);
+    }
     // times an odd number, so that each word comes once
     let from_all_over = |number: u64| (number as u32).wrapping_mul(0x9e37_79b1);
     done("every word with words from all over in its block, at one offset after another", ALL, 1, &from_all_over);
@@ -187,11 +216,11 @@ fn words(known: &(u32, Kernel), report: &mut impl FnMut(&str, Count)) {
 /// Pairs of a kernel of two operands: of fifty one has a special word in it, or two, one is any, and the others are clean.
 fn pairs(known: &(u32, Kernel), report: &mut impl FnMut(&str, Count)) {
     const PAIRS: u64 = 100_000_000;
-    let label = format!("strips, {} of pairs at every offset of a block, and beside the crate", known.1.label());
+    let label = format!("strips, {} of {PAIRS} pairs at every offset of a block, and beside the crate", known.1.label());
     let at = |_, random: &mut Random| {
         let clean = (random.near_one(), random.near_one());
         match random.below(50) {
-            0 => random.one_of(&PUTS)(clean, random.special(), random.special()),
+            0 => random.one_of(puts(known.1.takes))(clean, random.special(), random.special()),
             1 => random.pair(),
             _ => clean,
         }
@@ -199,18 +228,18 @@ fn pairs(known: &(u32, Kernel), report: &mut impl FnMut(&str, Count)) {
     report(&label, sweep(&label, known, PAIRS, BLOCK as u64, at));
 }
 
-/// Tries the kernels that are done in blocks, and reports each count with its label; with `every`, on each of the 2^32 words, or on
-/// 10^8 pairs.
+/// Tries the operations that are done in blocks, and reports each count with its label; with `every`, on each of the 2^32 words, or
+/// on 10^8 pairs.
 pub fn offsets(every: bool, known: &[(u32, Kernel)], mut report: impl FnMut(&str, Count)) {
-    let in_blocks = || known.iter().filter(|(_, kernel)| IN_BLOCKS.contains(&kernel.name));
-    let (label, mut count) = ("strips, special words among clean ones at every offset of a block", Count::default());
-    for known in in_blocks() {
-        // a length at a time
-        let counts = blocks(label, LONGEST as u64 + 1, 1, |length, _| among_clean(known, length as usize));
-        counts.iter().for_each(|more| count.add(more));
-    }
-    report(label, count);
-    for known in in_blocks().filter(|_| every) {
+    let in_blocks: Vec<&(u32, Kernel)> = known.iter().filter(|(op, _)| IN_BLOCKS.contains(op)).collect();
+    let keys: Vec<String> = in_blocks.iter().map(|(_, kernel)| kernel.key()).collect();
+    let label = format!("strips of {}, special words among clean ones at every offset of a block", keys.join(", "));
+    // a length of one operation at a time
+    let run = |number: u64, _| among_clean(in_blocks[number as usize % in_blocks.len()], number as usize / in_blocks.len());
+    let mut count = Count::default();
+    blocks(&label, ((LONGEST + 1) * in_blocks.len()) as u64, 1, run).iter().for_each(|more| count.add(more));
+    report(&label, count);
+    for known in in_blocks.into_iter().filter(|_| every) {
         match known.1.takes {
             Takes::One => words(known, &mut report),
             _ => pairs(known, &mut report),

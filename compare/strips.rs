@@ -1,5 +1,5 @@
 //! The strip call: each place beside the single call and beside the crate, a strip beside its pieces, what is refused as a whole,
-//! and each word at every offset of a block.
+//! and words at every offset of a block.
 
 use crate::edges;
 use crate::kernels::{all, strip, Kernel, Takes};
@@ -131,7 +131,7 @@ fn refused([lengths, unknown]: [&mut Count; 2], known: &[(u32, Kernel)]) {
     }
 }
 
-/// Tries strips, and reports each count with its label; with `every`, each of the 2^32 words at every offset of a block.
+/// Tries strips, and reports each count with its label; with `every`, each of the 2^32 words in a block, or 10^8 pairs.
 pub fn strips(every: bool, mut report: impl FnMut(&str, Count)) {
     let known: Vec<(u32, Kernel)> = all().into_iter().filter_map(|kernel| Some((kernel.number()?, kernel))).collect();
     let (edges, mut random) = (words::edges(), Random::new(7));

@@ -1,8 +1,9 @@
 //! How long a word of a strip takes, ours beside two loops of the crate's kernel: one with the crate as a crate of its own, as
 //! cargo builds it, and one in one crate with the kernel, so that all of it can be put into the loop. Over words that the guarded
-//! form answers, and over the same with special ones among them. It measures and judges nothing.
+//! form answers, and over the same with one place in a hundred special. It measures and judges nothing.
 
 use crate::kernels::{Kernel, Takes};
+use crate::offsets::puts;
 use crate::speed::{at_once, clean, median, strips, times, Side, WORDS};
 use crate::words::Random;
 use std::env::consts::ARCH;
@@ -12,7 +13,7 @@ use std::fs;
 const TURNS: usize = 16;
 const ROUNDS: usize = 101;
 
-/// One word in so many is special.
+/// One place in so many is special.
 const SPECIAL: usize = 100;
 
 /// The processor's name, or its kind where it has none.
@@ -25,7 +26,9 @@ fn processor() -> String {
 /// What the run is, to stand above its rows, and the names of their columns.
 pub fn heading() -> String {
     let clean = format!("clean: strips of {WORDS} random words of size 2^-15 to 2^17 that the guarded call answers, the same for all sides");
-    let mixed = format!("mixed: of these one operand in {SPECIAL} is a zero, a small number, an infinity or a NaN, and one pair of floats in {SPECIAL} two zeros");
+    let which = "one operand, or of two floats the first, the second or both with the same kind, a third each at random";
+    let kinds = "a special word is a zero, a small number, an infinity or a NaN, each kind as likely, of either sign; powi's powers stay";
+    let mixed = format!("mixed: of these one place in {SPECIAL}, at random, is special: {which}; {kinds}");
     let runs = format!("{TURNS} turns to a run, {ROUNDS} rounds of a run of each side in turn");
     let medians = "medians of a word's time and, in times, of the ratio of ours to the crate's in a round";
     let flags = "the crate by rustc -C opt-level=3 -C overflow-checks=off, no processor named, the library by rt, -O3 for the base processor";
@@ -39,19 +42,17 @@ fn row(cells: impl IntoIterator<Item = impl Display>) -> String {
     cells.into_iter().map(|cell| format!("| {cell} ")).chain(["|".to_string()]).collect()
 }
 
-/// These words with special ones among them; a power in two's complement stays as it is.
+/// These words with one place in `SPECIAL`, at random, special: one operand, or of two floats the first, the second or both with the
+/// same kind, a third each at random. A power in two's complement stays as it is.
 fn mixed(takes: Takes, words: &[(u32, u32)]) -> Vec<(u32, u32)> {
-    let (mut random, two_floats) = (Random::new(8), !matches!(takes, Takes::One | Takes::Power));
-    let place = |&(a, b): &(u32, u32)| {
-        let rarely = |(word, is_float)| if is_float && random.below(SPECIAL) == 0 { random.special() } else { word };
-        let [a, b] = [(a, true), (b, two_floats)].map(rarely);
-        if two_floats && random.below(SPECIAL) == 0 {
-            (0, 0)
-        } else {
-            (a, b)
-        }
-    };
-    words.iter().map(place).collect()
+    let (mut random, mut mixed, mut order) = (Random::new(8), words.to_vec(), Vec::from_iter(0..words.len()));
+    // the first places of an order at random, so that there are neither more nor fewer
+    for n in 0..words.len() / SPECIAL {
+        order.swap(n, n + random.below(words.len() - n));
+        let (place, [special, other]) = (order[n], random.specials());
+        mixed[place] = random.one_of(puts(takes))(words[place], special, other);
+    }
+    mixed
 }
 
 /// A row of these words for a kernel that has a number.

@@ -34,10 +34,18 @@ impl Random {
         within(self.word())
     }
 
+    /// Words of one kind, each of either sign: zeros, small numbers, infinities or NaN, each kind as likely.
+    pub fn specials<const N: usize>(&mut self) -> [u32; N] {
+        let kind = self.below(4);
+        [(); N].map(|()| {
+            let (sign, fraction) = (self.word() & 0x8000_0000, 1 + self.below(0x7f_ffff) as u32);
+            sign | [0, fraction, 0x7f80_0000, 0x7f80_0000 | fraction][kind]
+        })
+    }
+
     /// A zero, a small number, an infinity or a NaN, of either sign.
     pub fn special(&mut self) -> u32 {
-        let (sign, fraction) = (self.word() & 0x8000_0000, 1 + self.below(0x7f_ffff) as u32);
-        sign | self.one_of(&[0, fraction, 0x7f80_0000, 0x7f80_0000 | fraction])
+        self.specials::<1>()[0]
     }
 
     /// A word within four of one of the `ENDS`, of either sign, or any word.
