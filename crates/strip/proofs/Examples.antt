@@ -128,15 +128,15 @@ cut-where-they-differ = refl
 
 -- ---- which words the blocks run without a test: the last one and the one past it, at each end of each reach
 
-pub record Reached : Type 0 where
+pub record Words : Type 0 where
   pub op : ℕ
   pub a : ℕ
   pub b : ℕ
 
-abbrev of : ℕ → ℕ → ℕ → Reached
+abbrev of : ℕ → ℕ → ℕ → Words
 of op a b = record { op = op; a = a; b = b }
 
-abbrev inside : List Reached
+abbrev inside : List Words
 inside =
     of 0x06 0x7f7f_ffff 0
     ∷ of 0x06 0xff7f_ffff 0
@@ -154,15 +154,17 @@ inside =
     ∷ of 0x12 0 0xa180_0000
     ∷ of 0x12 0x5e80_0000 0xde80_0000
     ∷ of 0x92 0 0x2180_0000
+    ∷ of 0x92 0x5e80_0000 0xde80_0000
     ∷ of 0x13 0xc380_0000 0
     ∷ of 0x93 0x4480_0000 0
     ∷ of 0x14 0x4380_0000 0
     ∷ of 0x94 0x4380_0000 0
     ∷ of 0x15 0xde80_0000 0
+    ∷ of 0x15 0 0xa180_0000
     ∷ of 0x95 0x7f80_0000 0xff80_0000
     ∷ []
 
-abbrev outside : List Reached
+abbrev outside : List Words
 outside =
     of 0x06 0x7f80_0000 0
     ∷ of 0x09 0x007f_ffff 0
@@ -172,6 +174,7 @@ outside =
     ∷ of 0x89 0x8000_0000 0
     ∷ of 0x0a 0x007f_ffff 0
     ∷ of 0x0a 0x7f80_0000 0
+    ∷ of 0x0a 0x8080_0000 0
     ∷ of 0x0b 0x807f_ffff 0
     ∷ of 0x0b 0xfe80_0001 0
     ∷ of 0x11 0x5f80_0000 0
@@ -179,11 +182,13 @@ outside =
     ∷ of 0x12 0x217f_ffff 0xa17f_ffff
     ∷ of 0x12 0x5e80_0001 0
     ∷ of 0x12 0 0x5e80_0001
-    ∷ of 0x92 0 0
+    ∷ of 0x92 0x217f_ffff 0xa17f_ffff
+    ∷ of 0x92 0x5e80_0001 0
     ∷ of 0x13 0x4380_0001 0
     ∷ of 0x93 0xc480_0001 0
     ∷ of 0x14 0x4380_0001 0
     ∷ of 0x94 0x4380_0001 0
+    ∷ of 0x15 0x217f_ffff 0xa17f_ffff
     ∷ of 0x15 0 0xde80_0001
     ∷ of 0x95 0x7f80_0001 0
     ∷ of 0x95 0 0xff80_0001
@@ -192,7 +197,7 @@ outside =
     ∷ of 0x0c 0x3f80_0000 0
     ∷ []
 
-abbrev told : List Reached → List Bool
+abbrev told : List Words → List Bool
 told = map (λ c. reach (c .op) (c .a) (c .b))
 
 pub all-inside : told inside ≡ replicate (length inside) true

@@ -1,11 +1,11 @@
 -- A place that is in reach of the steps alone: nothing is refused there, and what stands there is the kernel's word. And a place of any words: its
 -- refusal, and the word beside it. Assumes nothing.
 use Prim.Native.Nat.{ℕ, suc, _-_, _^_, _≤_, _<_}
-use native.Mathlib.Nat.{le-trans, le-of-lt, mod-eq-of-lt, suc-ne-zero, suc-inj}
+use native.Mathlib.Nat.{le-of-lt, mod-eq-of-lt, suc-ne-zero, suc-inj}
 use native.Mathlib.Omega.{arith}
 use mathlib.Core.Path.{_≡_, refl, sym, ap, subst, _∙_}
 use mathlib.Core.Logic.{_⊎_, inl, inr}
-use mathlib.Core.List.{List, [], _∷_}
+use mathlib.Core.List.{List, [], _∷_, _++_}
 use mathlib.Core.Bool.{Bool, true, false, cond, _&&_, _||_, false≢true}
 use borrow.Author.Tests.{lt-ltb, le-ltb, lt-leb, ne-eqb, leb-true, leb-false, ltb-true, eqb-true, eqb-false}
 use lib.Dec.{leb, ltb, eqb, lit<, lit≤}
@@ -29,7 +29,7 @@ use Rattle.guard.specs.Guarded.{valueOf}
 use Rattle.guard.proofs.Open.{both, opened}
 use Rattle.guard.proofs.Laws.{second-word-is-ignored}
 use Rattle.strip.specs.Strip.{operandsIn, wordAt, refusalAt}
-use Rattle.strip.specs.Reach.{upTo, angleReach, AngleReach, blocked, hasBlocks, reach, onBits, halfWord, bitsWord, sizeNumber}
+use Rattle.strip.specs.Reach.{upTo, angleReach, AngleReach, blocked, hasBlocks, reach, stepped, onBits, halfWord, bitsWord, sizeNumber}
 use Rattle.strip.proofs.Answers.{raw-place, answered-place, guarded-number, refused-is-zero}
 use Rattle.strip.proofs.Runs.{same-word, same-number}
 use Rattle.strip.proofs.Numbers.{abs-number-is, invsqrt-number-is, inv-number-is, atan-number-is, cos-number-is, sin-number-is, root-number-is, angle-number-is, hypot-number-is}
@@ -42,7 +42,7 @@ Each P [] = Unit {0}
 Each P (k ∷ ks) = P k × Each P ks
 
 -- holds of every number in it
-pub listed : (P : ℕ → Type 0) (op : ℕ) (ks : List ℕ) → among ks op ≡ true → Each P ks → P op
+listed : (P : ℕ → Type 0) (op : ℕ) (ks : List ℕ) → among ks op ≡ true → Each P ks → P op
 listed P op [] e h = absurd (false≢true e)
 listed P op (k ∷ ks) e h = by (eqb op k) refl e (λ d. listed P op ks d (h .1))
   where
@@ -50,12 +50,18 @@ listed P op (k ∷ ks) e h = by (eqb op k) refl e (λ d. listed P op ks d (h .1)
     by true d e f = subst P (sym (eqb-true op k d)) (h .0)
     by false d e f = f e
 
-some : (n : ℕ) → suc n ≡ 0 → ⊥
-some n e = suc-ne-zero n e
+-- a number that is none of a list is in that list and another where it is in the other
+pub skipped : (xs ys : List ℕ) (op : ℕ) → among xs op ≡ false → among (xs ++ ys) op ≡ among ys op
+skipped [] ys op e = refl
+skipped (k ∷ xs) ys op e = by (eqb op k) e (skipped xs ys op)
+  where
+    by : (t : Bool) → (t || among xs op) ≡ false → (among xs op ≡ false → among (xs ++ ys) op ≡ among ys op) → (t || among (xs ++ ys) op) ≡ among ys op
+    by true e f = absurd (false≢true (sym e))
+    by false e f = f e
 
 -- ---- facts of words in reach
 
--- the square root of a word from 0 up to the infinity is its half
+-- of a word from 0 up to the infinity sqrt is half of its sum with the word of 1
 pub root-halved : (a : ℕ) → a ≤ 0x7f80_0000 → sqrtWord binary32 a ≡ halfWord a
 root-halved a h = rw (up-to-infinity binary32 a h)
 
@@ -70,7 +76,7 @@ angle-reached y x h =
     one false d e = inr (leb-true 0x2180_0000 (magnitude binary32 x) e)
 
 -- where a gate from 0 up to a limit has let a word pass, and where it has not
-pub passed : (limit w : ℕ) → limit < 0x7f80_0000 → upTo limit w ≡ true → sizeNumber limit w ≡ 0
+passed : (limit w : ℕ) → limit < 0x7f80_0000 → upTo limit w ≡ true → sizeNumber limit w ≡ 0
 passed limit w h e = let l = leb-true (magnitude binary32 w) limit e in rw (lt-leb 0x7f80_0000 (magnitude binary32 w) (omega (arith, l, h)), le-ltb limit (magnitude binary32 w) l)
 
 -- the two refusals of a gate are no answer
@@ -118,22 +124,22 @@ module _ (a b : ℕ) (k : a < 2 ^ 32) (l : b < 2 ^ 32) where
   -- ---- the raw kernels, of any words
 
   pub raw-root : Answered 0x89 a b (sqrtWord binary32 a)
-  raw-root = raw 0x89 (some 0) (lit≤ tt)
+  raw-root = raw 0x89 (suc-ne-zero 0) (lit≤ tt)
 
   pub raw-atan : Answered 0x91 a b (atanWord ieee a)
-  raw-atan = raw 0x91 (some 0) (lit≤ tt)
+  raw-atan = raw 0x91 (suc-ne-zero 0) (lit≤ tt)
 
   pub raw-angle : Answered 0x92 a b (atan2Word a b)
-  raw-angle = raw 0x92 (some 1) (lit≤ tt)
+  raw-angle = raw 0x92 (suc-ne-zero 1) (lit≤ tt)
 
   pub raw-cos : Answered 0x93 a b (cosWord ieee a)
-  raw-cos = raw 0x93 (some 0) (lit≤ tt)
+  raw-cos = raw 0x93 (suc-ne-zero 0) (lit≤ tt)
 
   pub raw-sin : Answered 0x94 a b (sinWord ieee a)
-  raw-sin = raw 0x94 (some 0) (lit≤ tt)
+  raw-sin = raw 0x94 (suc-ne-zero 0) (lit≤ tt)
 
   pub raw-hypot : Answered 0x95 a b (hypotWord a b)
-  raw-hypot = raw 0x95 (some 1) (lit≤ tt)
+  raw-hypot = raw 0x95 (suc-ne-zero 1) (lit≤ tt)
 
   -- ---- the guarded ones: the refusal at a place, and the word where there is none
 
@@ -141,68 +147,68 @@ module _ (a b : ℕ) (k : a < 2 ^ 32) (l : b < 2 ^ 32) where
   at-place op n o g e = sym e ∙ sym (guarded-number op a b o k l g)
 
   pub abs-number-at : sizeNumber 0x7fff_ffff a ≡ refusalAt 0x06 a b
-  abs-number-at = at-place 0x06 _ (some 0) (lit< tt) (second-word-is-ignored 0x06 a b refl .0 ∙ abs-number-is a)
+  abs-number-at = at-place 0x06 _ (suc-ne-zero 0) (lit< tt) (second-word-is-ignored 0x06 a b refl .0 ∙ abs-number-is a)
 
   pub invsqrt-number-at : refusalOf 0x0a a 0 ≡ refusalAt 0x0a a b
-  invsqrt-number-at = at-place 0x0a _ (some 0) (lit< tt) (second-word-is-ignored 0x0a a b refl .0)
+  invsqrt-number-at = at-place 0x0a _ (suc-ne-zero 0) (lit< tt) (second-word-is-ignored 0x0a a b refl .0)
 
   pub inv-number-at : refusalOf 0x0b a 0 ≡ refusalAt 0x0b a b
-  inv-number-at = at-place 0x0b _ (some 0) (lit< tt) (second-word-is-ignored 0x0b a b refl .0)
+  inv-number-at = at-place 0x0b _ (suc-ne-zero 0) (lit< tt) (second-word-is-ignored 0x0b a b refl .0)
 
   pub root-number-at : refusalOf 0x09 a 0 ≡ refusalAt 0x09 a b
-  root-number-at = at-place 0x09 _ (some 0) (lit< tt) (second-word-is-ignored 0x09 a b refl .0)
+  root-number-at = at-place 0x09 _ (suc-ne-zero 0) (lit< tt) (second-word-is-ignored 0x09 a b refl .0)
 
   pub atan-number-at : sizeNumber 0x5f7f_ffff a ≡ refusalAt 0x11 a b
-  atan-number-at = at-place 0x11 _ (some 0) (lit< tt) (second-word-is-ignored 0x11 a b refl .0 ∙ atan-number-is a)
+  atan-number-at = at-place 0x11 _ (suc-ne-zero 0) (lit< tt) (second-word-is-ignored 0x11 a b refl .0 ∙ atan-number-is a)
 
   pub angle-number-at : refusalOf 0x12 a b ≡ refusalAt 0x12 a b
-  angle-number-at = at-place 0x12 _ (some 1) (lit< tt) refl
+  angle-number-at = at-place 0x12 _ (suc-ne-zero 1) (lit< tt) refl
 
   pub cos-number-at : sizeNumber 0x4380_0000 a ≡ refusalAt 0x13 a b
-  cos-number-at = at-place 0x13 _ (some 0) (lit< tt) (second-word-is-ignored 0x13 a b refl .0 ∙ cos-number-is a)
+  cos-number-at = at-place 0x13 _ (suc-ne-zero 0) (lit< tt) (second-word-is-ignored 0x13 a b refl .0 ∙ cos-number-is a)
 
   pub sin-number-at : sizeNumber 0x4380_0000 a ≡ refusalAt 0x14 a b
-  sin-number-at = at-place 0x14 _ (some 0) (lit< tt) (second-word-is-ignored 0x14 a b refl .0 ∙ sin-number-is a)
+  sin-number-at = at-place 0x14 _ (suc-ne-zero 0) (lit< tt) (second-word-is-ignored 0x14 a b refl .0 ∙ sin-number-is a)
 
   pub hypot-number-at : refusalOf 0x12 a b ≡ refusalAt 0x15 a b
-  hypot-number-at = at-place 0x15 _ (some 1) (lit< tt) (hypot-number-is a b)
+  hypot-number-at = at-place 0x15 _ (suc-ne-zero 1) (lit< tt) (hypot-number-is a b)
 
   answered : (op : ℕ) → (operandsIn op ≡ 0 → ⊥) → op < 0x80 → refusalAt op a b ≡ 0 → Answered op a b (valueOf op a b)
   answered op o g z = guarded op o g (sym (guarded-number op a b o k l g) ∙ z)
 
   pub root-answered : refusalAt 0x09 a b ≡ 0 → Answered 0x09 a b (cond (isZero binary32 a) a (halfWord a))
-  root-answered z = let p = answered 0x09 (some 0) (lit< tt) z in record { number = z; word = p .word ∙ go (isZero binary32 a) refl }
+  root-answered z = let p = answered 0x09 (suc-ne-zero 0) (lit< tt) z in record { number = z; word = p .word ∙ go (isZero binary32 a) refl }
     where
       none : refusalOf 0x09 a b ≡ 0
-      none = sym (guarded-number 0x09 a b (some 0) k l (lit< tt)) ∙ z
+      none = sym (guarded-number 0x09 a b (suc-ne-zero 0) k l (lit< tt)) ∙ z
 
       go : (t : Bool) → isZero binary32 a ≡ t → cond t a (sqrtWord binary32 a) ≡ cond t a (halfWord a)
       go true e = refl
       go false e = let o = opened 0x09 a b none in root-halved a (le-of-lt (normal-of binary32 a (o .first) e (o .small) (o .sign) .below))
 
   pub abs-answered : refusalAt 0x06 a b ≡ 0 → Answered 0x06 a b (absWord binary32 a)
-  abs-answered = answered 0x06 (some 0) (lit< tt)
+  abs-answered = answered 0x06 (suc-ne-zero 0) (lit< tt)
 
   pub invsqrt-answered : refusalAt 0x0a a b ≡ 0 → Answered 0x0a a b (invsqrtWord a)
-  invsqrt-answered = answered 0x0a (some 0) (lit< tt)
+  invsqrt-answered = answered 0x0a (suc-ne-zero 0) (lit< tt)
 
   pub inv-answered : refusalAt 0x0b a b ≡ 0 → Answered 0x0b a b (invWord binary32 a)
-  inv-answered = answered 0x0b (some 0) (lit< tt)
+  inv-answered = answered 0x0b (suc-ne-zero 0) (lit< tt)
 
   pub atan-answered : refusalAt 0x11 a b ≡ 0 → Answered 0x11 a b (atanWord ieee a)
-  atan-answered = answered 0x11 (some 0) (lit< tt)
+  atan-answered = answered 0x11 (suc-ne-zero 0) (lit< tt)
 
   pub angle-answered : refusalAt 0x12 a b ≡ 0 → Answered 0x12 a b (atan2Word a b)
-  angle-answered = answered 0x12 (some 1) (lit< tt)
+  angle-answered = answered 0x12 (suc-ne-zero 1) (lit< tt)
 
   pub cos-answered : refusalAt 0x13 a b ≡ 0 → Answered 0x13 a b (cosWord ieee a)
-  cos-answered = answered 0x13 (some 0) (lit< tt)
+  cos-answered = answered 0x13 (suc-ne-zero 0) (lit< tt)
 
   pub sin-answered : refusalAt 0x14 a b ≡ 0 → Answered 0x14 a b (sinWord ieee a)
-  sin-answered = answered 0x14 (some 0) (lit< tt)
+  sin-answered = answered 0x14 (suc-ne-zero 0) (lit< tt)
 
   pub hypot-answered : refusalAt 0x15 a b ≡ 0 → Answered 0x15 a b (hypotWord a b)
-  hypot-answered = answered 0x15 (some 1) (lit< tt)
+  hypot-answered = answered 0x15 (suc-ne-zero 1) (lit< tt)
 
   -- an operation that took a 0 in the place of a word past its gate
   taken : (f : ℕ → ℕ) (op : ℕ) → sizeNumber 0x4380_0000 a ≡ refusalAt op a b → refusalAt op a b ≡ 0 → f (cond (upTo 0x4380_0000 a) a 0) ≡ f a
@@ -334,16 +340,13 @@ module _ (a b : ℕ) (k : a < 2 ^ 32) (l : b < 2 ^ 32) where
       known : operandsIn op ≡ 0 → ⊥
       known =
           listed (λ n. operandsIn n ≡ 0 → ⊥) op blocked h
-          (some 0, (some 0, (some 0, (some 0, (some 0, (some 0, (some 0, (some 1, (some 1, (some 0, (some 0, (some 0, (some 0, (some 1, (some 1, tt)))))))))))))))
+          (suc-ne-zero 0, (suc-ne-zero 0, (suc-ne-zero 0, (suc-ne-zero 0, (suc-ne-zero 0, (suc-ne-zero 0, (suc-ne-zero 0, (suc-ne-zero 1, (suc-ne-zero 1, (suc-ne-zero 0, (suc-ne-zero 0, (suc-ne-zero 0, (suc-ne-zero 0, (suc-ne-zero 1, (suc-ne-zero 1, tt)))))))))))))))
 
       go : (t : Bool) → eqb n 0 ≡ t → cond t w 0 ≡ wordAt op a b
       go true d = f h (sym e ∙ eqb-true n 0 d)
       go false d = sym (refused-is-zero op a b known k l (λ z. eqb-false n 0 d (e ∙ z)))
 
 -- ---- the steps on the word itself, whatever the second word is
-
-abbrev stepped : List ℕ
-stepped = 0x06 ∷ 0x09 ∷ 0x89 ∷ 0x0a ∷ 0x0b ∷ []
 
 pub bits-have-blocks : (op : ℕ) → onBits op ≡ true → hasBlocks op ≡ true
 bits-have-blocks op r = listed (λ n. hasBlocks n ≡ true) op stepped r (refl, (refl, (refl, (refl, (refl, tt)))))

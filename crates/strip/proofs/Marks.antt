@@ -3,7 +3,7 @@ use Prim.Native.Nat.{ℕ, _+_, _-_, _%_, _^_, _≤_, _<_}
 use native.Mathlib.Omega.{arith}
 use mathlib.Core.Path.{_≡_, refl}
 use mathlib.Core.Logic.{_⊎_, inl, inr}
-use mathlib.Core.Bool.{Bool, true, false, _||_}
+use mathlib.Core.Bool.{Bool, true, false, _||_, or-true}
 use borrow.Author.Tests.{le-leb, leb-true, leb-false}
 use lib.Dec.{leb}
 use lib.Bits.{bitOr, or-add-and, and-le-l, and-le-r, or-lt}
@@ -47,10 +47,6 @@ numbers-told a b m n f g h = (f (or-left a b (2 ^ 31) h), g (or-right a b (2 ^ 3
 
 pub range-told : (a b m : ℕ) → m < 2 ^ 31 → (a < 2 ^ 31 → m ≤ 0x7e80_0000) → b ≡ (m + 0xff80_0000) % 2 ^ 32 → bitOr a b < 2 ^ 31 → (0x0080_0000 ≤ m) × (m ≤ 0x7e80_0000)
 range-told a b m l f e h = let q = or-right a b (2 ^ 31) h in (omega (arith, q, e, l), f (or-left a b (2 ^ 31) h))
-
-or-true : (t : Bool) → (t || true) ≡ true
-or-true true = refl
-or-true false = refl
 
 module _ (y x : ℕ) where
   abbrev m : ℕ

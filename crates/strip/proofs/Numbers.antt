@@ -3,16 +3,17 @@ use Prim.Native.Nat.{ℕ, _+_, _/_, _^_, _≤_, _<_, zero-le}
 use native.Mathlib.Nat.{le-trans, le-of-lt}
 use native.Mathlib.Omega.{arith}
 use mathlib.Core.Path.{_≡_, refl, sym, ap, _∙_}
-use mathlib.Core.Bool.{Bool, true, false, cond, not, _&&_, _||_, false≢true, and-comm, or-comm}
-use borrow.Author.Tests.{lt-ltb, le-ltb, le-leb, lt-leb, eq-eqb, ne-eqb, ltb-true, ltb-false, leb-true, leb-false, eqb-true, eqb-false}
+use mathlib.Core.Bool.{Bool, true, false, cond, not, _&&_, _||_, false≢true, and-comm, or-comm, and-true}
+use borrow.Author.Tests.{lt-ltb, le-leb, lt-leb, eq-eqb, ne-eqb, ltb-true, ltb-false, leb-true, leb-false, eqb-true}
 use lib.Dec.{leb, ltb, eqb, lit<}
-use lib.Ieee.{binary32, unlike}
+use lib.Ieee.{binary32}
 use Rattle.format.specs.Fields.{magnitude}
 use Rattle.format.specs.Classes.{isEndless, isZero, isSmall, isBelowZero}
 use Rattle.format.proofs.Classes.{zero-not-endless}
+use Rattle.format.proofs.Exact.{unlike-false}
 use Rattle.format.proofs.Fields.{magnitude-lt}
 use Rattle.guard.specs.Operations.{opAbs, opSqrt, opInvsqrt, opInv, opAtan, opAtan2, opCos, opSin, opHypot}
-use Rattle.guard.specs.Gates.{between, unbounded, place, within, passes, larger, judged}
+use Rattle.guard.specs.Gates.{between, unbounded, passes, larger, judged}
 use Rattle.guard.specs.Refusals.{refusalBehind, refusalOf}
 use Rattle.strip.specs.Reach.{angleReach, sizeNumber}
 
@@ -43,11 +44,7 @@ shifted a b = go (leb a b) refl
 
 gated : (l h m : ℕ) → l < 2 ^ 31 → h < 2 ^ 31 → m < 2 ^ 31 → passes (between l h) m ≡ (leb l m && leb m h)
 gated l h m p q r =
-    rw (lt-leb (2 ^ 31) l p, lt-leb (2 ^ 31) h q, lt-leb (2 ^ 31) m r, shifted l m, shifted m h, ne-eqb m 0xffff_ffff (λ (e : m ≡ 0xffff_ffff). let z : ⊥ = omega (arith, e, r) in z)) (alone (leb l m && leb m h))
-  where
-    alone : (t : Bool) → unlike t false ≡ t
-    alone true = refl
-    alone false = refl
+    rw (lt-leb (2 ^ 31) l p, lt-leb (2 ^ 31) h q, lt-leb (2 ^ 31) m r, shifted l m, shifted m h, ne-eqb m 0xffff_ffff (λ (e : m ≡ 0xffff_ffff). let z : ⊥ = omega (arith, e, r) in z)) (unlike-false (leb l m && leb m h))
 
 past : (m h : ℕ) → not (leb m h) ≡ ltb h m
 past m h = go (ltb h m) refl
@@ -136,10 +133,6 @@ joined : (a b c d : Bool) → (b ≡ true → a ≡ true) → (c ≡ true → d 
 joined true true true true h k = refl
 joined true true true false h k = absurd (false≢true (k refl))
 joined true true false d h k = sym (and-true d)
-  where
-    and-true : (d : Bool) → (d && true) ≡ d
-    and-true true = refl
-    and-true false = refl
 joined false true c d h k = absurd (false≢true (h refl))
 joined true false c true h k = refl
 joined true false c false h k = refl

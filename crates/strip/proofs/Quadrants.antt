@@ -24,7 +24,7 @@ use Rattle.sizes.proofs.Numbers.{add-number-left}
 use Rattle.sizes.proofs.Quotient.{sign-or-number, read-number, half-turns}
 use Rattle.sizes.proofs.Atan2.{offset-finite, within-number, ratio-number}
 use Rattle.strip.specs.Reach.{AngleReach}
-use Rattle.strip.specs.Steps.{halfTurns, wholeTurn, turnedWord}
+use Rattle.strip.specs.Steps.{inRadians, wholeTurn, quadrantWord}
 use Rattle.strip.proofs.Sized.{product-size, square-size, bend, bent-size, times-nan, and-nan}
 
 -- ---- the quotient
@@ -122,8 +122,8 @@ module _ (y x q : ℕ) (yl : y < 2 ^ 32) (xl : x < 2 ^ 32) (ql : q < 2 ^ 32) (n 
   angle-number e =
       rw (within-is e, half-turns _ (within-number defined (add-number-left binary32 _ _ (offset-finite y x) (read-number _ (sign-or-number (backward y x) q n))))) tt
 
-  pub angle-is : {t : Float} → t ≡ wholeTurn coded → halfTurns (sub binary32 coded t) ≡ turnedWord y x q
-  angle-is e = ap (λ (v : Float). halfTurns v) (within-is e)
+  pub angle-is : {t : Float} → t ≡ wholeTurn coded → inRadians (sub binary32 coded t) ≡ quadrantWord y x q
+  angle-is e = ap (λ (v : Float). inRadians v) (within-is e)
 
 -- ---- the answer
 
@@ -132,25 +132,25 @@ unfolding ofBits toBits
 signed-nan true = refl
 signed-nan false = refl
 
-after-nan : halfTurns (withinHalf nan) ≡ 0x7fc0_0000
+after-nan : inRadians (withinHalf nan) ≡ 0x7fc0_0000
 unfolding mul lt ofBits toBits
 after-nan = refl
 
-turned-nan : (y x : ℕ) → turnedWord y x (toBits binary32 nan) ≡ 0x7fc0_0000
-turned-nan y x = ap (λ (v : Float). halfTurns (withinHalf v)) (ap (add binary32 _) (signed-nan (backward y x)) ∙ and-nan binary32 _) ∙ after-nan
+turned-nan : (y x : ℕ) → quadrantWord y x (toBits binary32 nan) ≡ 0x7fc0_0000
+turned-nan y x = ap (λ (v : Float). inRadians (withinHalf v)) (ap (add binary32 _) (signed-nan (backward y x)) ∙ and-nan binary32 _) ∙ after-nan
 
 module _ (y x : ℕ) {q : Float} (e : q ≡ ratio (ofBits binary32 y) (ofBits binary32 x)) where
-  pub turned-is : turnedWord y x (toBits binary32 q) ≡ atan2Word y x
+  pub turned-is : quadrantWord y x (toBits binary32 q) ≡ atan2Word y x
   unfolding atan2Word quarters
-  turned-is = ap (λ (v : Float). turnedWord y x (toBits binary32 v)) e
+  turned-is = ap (λ (v : Float). quadrantWord y x (toBits binary32 v)) e
 
   pub ratio-fits : T (fits binary32 q)
   ratio-fits = rw e (div-fits binary32 _ _)
 
-pub answered : (y x : ℕ) {q : Float} → q ≡ ratio (ofBits binary32 y) (ofBits binary32 x) → cond (ne q q) 0x7fc0_0000 (turnedWord y x (cond (ne q q) 0 (toBits binary32 q))) ≡ atan2Word y x
+pub answered : (y x : ℕ) {q : Float} → q ≡ ratio (ofBits binary32 y) (ofBits binary32 x) → cond (ne q q) 0x7fc0_0000 (quadrantWord y x (cond (ne q q) 0 (toBits binary32 q))) ≡ atan2Word y x
 answered y x {q} e = go (ne q q) refl
   where
-    go : (b : Bool) → ne q q ≡ b → cond b 0x7fc0_0000 (turnedWord y x (cond b 0 (toBits binary32 q))) ≡ atan2Word y x
+    go : (b : Bool) → ne q q ≡ b → cond b 0x7fc0_0000 (quadrantWord y x (cond b 0 (toBits binary32 q))) ≡ atan2Word y x
     go true d = sym (turned-nan y x) ∙ turned-is y x (sym (differs-from-itself q (subst T (sym d) tt)) ∙ e)
     go false d = turned-is y x e
 

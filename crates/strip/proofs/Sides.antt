@@ -1,4 +1,4 @@
--- hypot of two words: of numbers the sum of the squares is no NaN and its sign is clear, so sqrt halves its word; a NaN is handed on to the answer.
+-- hypot of two words: of numbers the sum of the squares is no NaN and its sign is clear, so its root is half of its word's sum with that of 1; a NaN is handed on to the answer.
 -- Assumes nothing.
 use Prim.Native.Nat.{ℕ, _+_, _/_, _^_, _≤_, _<_}
 use native.Mathlib.Nat.{mod-eq-of-lt}

@@ -18,7 +18,7 @@ use Rattle.float.proofs.Signs.{or-answered}
 use Rattle.sizes.proofs.Words.{abs-value, at-most-number, number-word}
 use Rattle.sizes.proofs.Quotient.{sign-or-number, read-number, half-turns}
 use Rattle.sizes.proofs.Atan.{quotient-at-most}
-use Rattle.strip.specs.Steps.{halfTurns, signedWord}
+use Rattle.strip.specs.Steps.{inRadians, signedWord}
 use Rattle.strip.proofs.Sized.{square-size, bend, bent-size, is-itself}
 
 -- ---- the quotient
@@ -52,13 +52,13 @@ module _ (w q : ℕ) (wl : w < 2 ^ 32) (ql : q < 2 ^ 32) (n : nanBits binary32 q
   pub angle-number : T (not (isNan (mul binary32 (ofBits binary32 0x3fc9_0fdb) (ofBits binary32 signed))))
   angle-number = rw (signed-is, half-turns _ (read-number _ (sign-or-number (negative binary32 w) q n))) tt
 
-  pub angle-is : halfTurns (ofBits binary32 signed) ≡ signedWord w q
-  angle-is = ap (λ (r : ℕ). halfTurns (ofBits binary32 r)) signed-is
+  pub angle-is : inRadians (ofBits binary32 signed) ≡ signedWord w q
+  angle-is = ap (λ (r : ℕ). inRadians (ofBits binary32 r)) signed-is
 
 -- ---- the answer
 
 abbrev answerOf : Bool → Float → ℕ
-answerOf s q = halfTurns (ofBits binary32 (signedAnswer s (toBits binary32 q)))
+answerOf s q = inRadians (ofBits binary32 (signedAnswer s (toBits binary32 q)))
 
 answer-nan : (s : Bool) → answerOf s nan ≡ 0x7fc0_0000
 unfolding mul ofBits toBits nanBits
@@ -70,7 +70,7 @@ module _ (w : ℕ) {q : Float} (e : q ≡ firstQuadrant ieee (ofBits binary32 w)
   answer-is = ap (answerOf (negative binary32 w)) e
 
   pub of-number : nanBits binary32 (toBits binary32 q) ≡ false → signedWord w (toBits binary32 q) ≡ atanWord ieee w
-  of-number n = ap (λ (b : Bool). halfTurns (ofBits binary32 (cond b 0x7fc0_0000 (signOr (negative binary32 w) (toBits binary32 q))))) (sym n) ∙ answer-is
+  of-number n = ap (λ (b : Bool). inRadians (ofBits binary32 (cond b 0x7fc0_0000 (signOr (negative binary32 w) (toBits binary32 q))))) (sym n) ∙ answer-is
 
   of-nan : q ≡ nan → 0x7fc0_0000 ≡ atanWord ieee w
   of-nan d = sym (answer-nan (negative binary32 w)) ∙ ap (answerOf (negative binary32 w)) (sym d) ∙ answer-is

@@ -2,7 +2,7 @@
 -- them. Assumes nothing.
 use Prim.Native.Nat.{ℕ, _+_, _≤_, _<_, zero-le}
 use native.Mathlib.Omega.{arith}
-use mathlib.Core.Path.{_≡_, refl, sym, _∙_}
+use mathlib.Core.Path.{_≡_, refl}
 use mathlib.Core.List.{List}
 use lib.ListN.{length, getD, set}
 use Rattle.strip.specs.Strip.{wordAt, refusalAt, Fills, Agree}

@@ -4,7 +4,7 @@ ghost use mathlib.Core.Bool.{false};
 ghost use lib.Ieee.{binary32, nanBits, ofBits};
 ghost use Rattle.float.specs.Atan2.{ratio, atan2Word};
 ghost use Rattle.strip.specs.Reach.{AngleReach};
-ghost use Rattle.strip.specs.Steps.{wholeTurn, turnedWord};
+ghost use Rattle.strip.specs.Steps.{wholeTurn, quadrantWord};
 use crate::choice;
 use float::F32;
 use float::atan;
@@ -46,7 +46,7 @@ fn ratio(y: u32, x: u32) -> f32
 // The angle of a quotient, brought to its quadrant by the two signs.
 fn turned(y: u32, x: u32, quotient: u32) -> u32
     requires { ⌜ nanBits binary32 quotient ≡ false ⌝ }
-    ensures { λ r. ⌜ r ≡ turnedWord y x quotient ⌝ }
+    ensures { λ r. ⌜ r ≡ quadrantWord y x quotient ⌝ }
 {
     let left = x & F32::SIGN_MASK;
     let down = y & F32::SIGN_MASK;

@@ -2,7 +2,7 @@
 // are judged at once, and where each is in reach the steps run alone; else the block is done by steps that
 // take any words. A block's length is written out, so that its loops are compiled for it.
 ghost use mathlib.Core.Path.{_≡_};
-ghost use mathlib.Core.Bool.{true};
+ghost use mathlib.Core.Bool.{true, false};
 ghost use lib.ListN.{length};
 ghost use Rattle.strip.specs.Strip.{Fills, Agree};
 ghost use Rattle.strip.specs.Reach.{hasBlocks, onBits, AllReach};
@@ -13,7 +13,8 @@ const BLOCK: usize = 32;
 
 // Fills every place of lists that have one length, for the kernels that are a step on the word itself:
 // abs, sqrt, invsqrt and inv. The operation is found here, before the blocks: beside so short a step the
-// way to it would be felt at each. Of three the raw form has no test to be spared.
+// way to it would be felt at each. Of three the raw form has no test to be spared. The last arm is for a
+// number that is none of these, which `fill_all` does not hand on.
 pub(crate) fn fill_bits(
     op: u32,
     first: &[u32],
@@ -109,7 +110,7 @@ pub(crate) fn fill(
 }
 
 // The same for a block. Each operation has an arm: with its number written out, the loops are compiled
-// for its kernel alone.
+// for its kernel alone. The last is for a number that `fill_all` does not hand on.
 fn block(op: u32, first: &[u32], second: &[u32], answers: &mut [u32], refusals: &mut [u32])
     requires { ⌜ Agree (now first) (now second) (now answers) (now refusals) ⌝ }
     ensures { λ r. ⌜ Fills op (now (first .entry)) (now (second .entry)) (now (answers .exit)) (now (refusals .exit)) ⌝ }
@@ -209,7 +210,7 @@ fn rest(op: u32, first: &[u32], second: &[u32], answers: &mut [u32], refusals: &
     }
 }
 
-// Whether every place is in reach of the steps alone.
+// True only where every place is in reach of the steps alone.
 fn judge(op: u32, first: &[u32], second: &[u32]) -> bool
     requires { ⌜ length (now second) ≡ length (now first) ⌝ }
     ensures { λ r. ⌜ (r ≡ true → AllReach op (now (first .entry)) (now (second .entry))) ⌝ }
@@ -225,7 +226,7 @@ fn judge(op: u32, first: &[u32], second: &[u32]) -> bool
 
 // Fills every place by the steps alone. Nothing is refused.
 fn run(op: u32, first: &[u32], second: &[u32], answers: &mut [u32], refusals: &mut [u32])
-    requires { ⌜ Agree (now first) (now second) (now answers) (now refusals) × AllReach op (now first) (now second) ⌝ }
+    requires { ⌜ Agree (now first) (now second) (now answers) (now refusals) × AllReach op (now first) (now second) × (onBits op ≡ false) ⌝ }
     ensures { λ r. ⌜ Fills op (now (first .entry)) (now (second .entry)) (now (answers .exit)) (now (refusals .exit)) ⌝ }
 {
     let mut i: usize = 0;
@@ -250,8 +251,8 @@ fn each(op: u32, first: &[u32], second: &[u32], answers: &mut [u32], refusals: &
     }
 }
 
-// Fills every place by the step on its word, with nothing refused, and says whether that is so: every word
-// bears the step, and to judge beside it is quicker than before it.
+// Fills every place by the step on its word, with nothing refused, and is true only where that is the
+// answer at each: every word bears the step, and to judge beside it is quicker than before it.
 fn try_bits(
     op: u32,
     first: &[u32],

@@ -38,9 +38,9 @@ pub fn run(op: u32, first: &[u32], second: &[u32], answers: &mut [u32], refusals
     0
 }
 
-// Fills every place of lists that have one length. The operation is found here, once: with its number
-// written out, a loop is compiled for its kernel alone. Each has an arm; the last is for a number that
-// has no kernel, which `run` does not let through.
+// Fills every place of lists that have one length. The kernel is found here, once: with its number
+// written out, a loop is compiled for it alone. Those in blocks have their loops there. Each has an arm;
+// the last is for a number that has no kernel, which `run` does not let through.
 fn fill_all(op: u32, first: &[u32], second: &[u32], answers: &mut [u32], refusals: &mut [u32])
     requires { ⌜ Agree (now first) (now second) (now answers) (now refusals) ⌝ }
     ensures { λ r. ⌜ Fills op (now (first .entry)) (now (second .entry)) (now (answers .exit)) (now (refusals .exit)) ⌝ }

@@ -1,7 +1,7 @@
 // A place of a strip for the operations that have blocks: by the steps alone, where a test of the
 // words has told that no step meets a NaN and nothing is refused, and else by steps that take any words.
 ghost use mathlib.Core.Path.{_≡_};
-ghost use mathlib.Core.Bool.{true, cond};
+ghost use mathlib.Core.Bool.{true, false, cond};
 ghost use Prim.Native.Nat.{_≤_, _<_, _^_};
 ghost use lib.Dec.{leb};
 ghost use lib.Ieee.{binary32};
@@ -14,7 +14,7 @@ ghost use Rattle.float.specs.Hypot.{hypotWord};
 ghost use Rattle.guard.specs.Operations.{opSqrt, opInvsqrt, opInv, opAtan2};
 ghost use Rattle.guard.specs.Refusals.{refusalOf};
 ghost use Rattle.strip.specs.Strip.{wordAt, refusalAt};
-ghost use Rattle.strip.specs.Reach.{angleReach, hasBlocks, reach, halfWord, bitsWord, sizeNumber};
+ghost use Rattle.strip.specs.Reach.{angleReach, hasBlocks, reach, onBits, halfWord, bitsWord, sizeNumber};
 use crate::angle;
 use crate::atan;
 use crate::choice;
@@ -25,10 +25,8 @@ use float::cos;
 use float::wrap;
 use guard::refusal;
 
-// The word of the smallest normal number, and of the infinity.
+// The word of the smallest normal number.
 const NORMAL: u32 = 0x0080_0000;
-
-const INFINITY: u32 = 0x7f80_0000;
 
 // The ends of the gates: inv to 2^126, atan under 2^64, atan2 and hypot from 2^-60 to 2^62, cos and sin to
 // 256; and how far the steps of raw cos go.
@@ -107,7 +105,8 @@ fn angle_mark(y: u32, x: u32) -> u32
 {
     let height = F32(y).without_sign().0;
     let across = F32(x).without_sign().0;
-    // the first sums reach 2^31 past the end, and the others from the start on
+    // 0x217f_ffff is 0x7fff_ffff - PAIR_END: such a sum reaches 2^31 past the end; 0x5e80_0000 is
+    // 0x8000_0000 - PAIR_START: such a one from the start on
     let above = (height + 0x217f_ffff) | (across + 0x217f_ffff);
     above | !((height + 0x5e80_0000) | (across + 0x5e80_0000))
 }
@@ -116,22 +115,17 @@ fn angle_mark(y: u32, x: u32) -> u32
 fn numbers_mark(a: u32, b: u32) -> u32
     ensures { λ r. ⌜ (r < 2 ^ 31 → (magnitude binary32 a ≤ 0x7f80_0000) × (magnitude binary32 b ≤ 0x7f80_0000)) ⌝ }
 {
-    size_mark(a, INFINITY) | size_mark(b, INFINITY)
+    size_mark(a, F32::INFINITY.0) | size_mark(b, F32::INFINITY.0)
 }
 
 // ---- the steps alone
 
-// What the single call answers there. It refuses nothing.
+// What the single call answers there, of a kernel that is no step on the word itself. It refuses nothing.
 pub(crate) fn word(op: u32, a: u32, b: u32) -> u32
-    requires { ⌜ reach op a b ≡ true ⌝ }
+    requires { ⌜ (reach op a b ≡ true) × (onBits op ≡ false) ⌝ }
     ensures { λ r. ⌜ (r ≡ wordAt op a b) × (refusalAt op a b ≡ 0) ⌝ }
 {
     match op {
-        0x06 => bits(0x06, a),
-        0x09 => bits(0x09, a),
-        0x89 => bits(0x89, a),
-        0x0a => bits(0x0a, a),
-        0x0b => bits(0x0b, a),
         0x11 => atan::within_gate(a),
         0x91 => atan::within_gate(a),
         0x12 => angle::within_gate(a, b),
@@ -146,7 +140,8 @@ pub(crate) fn word(op: u32, a: u32, b: u32) -> u32
     }
 }
 
-// The kernels that are a step on the word itself, which every word bears: abs, sqrt in reach, invsqrt and inv.
+// The kernels that are a step on the word itself, which every word bears: abs, sqrt in reach, invsqrt and
+// inv. That w is a word is handed back for the loop that calls it.
 pub(crate) fn bits(op: u32, w: u32) -> u32
     ensures { λ r. ⌜ (r ≡ bitsWord op w) × (w < 2 ^ 32) ⌝ }
 {
@@ -158,7 +153,7 @@ pub(crate) fn bits(op: u32, w: u32) -> u32
     }
 }
 
-// Half of a word about that of 1.
+// Half of the sum of a word and that of 1.
 fn half(w: u32) -> u32
     ensures { λ r. ⌜ r ≡ halfWord w ⌝ }
 {
@@ -200,7 +195,7 @@ fn root_number(w: u32) -> u32
     let below = choice::either(w >= 0x8000_0000, 3, 0);
     let small = choice::either(size < NORMAL, 9, below);
     let some = choice::either(size == 0, 0, small);
-    choice::either(size >= INFINITY, 1, some)
+    choice::either(size >= F32::INFINITY.0, 1, some)
 }
 
 // Of invsqrt: the same, and 2 of a zero.
@@ -226,7 +221,11 @@ fn angle_number(y: u32, x: u32) -> u32
     let height = F32(y).without_sign().0;
     let across = F32(x).without_sign().0;
     let outside = choice::either(angle_inside(y, x), 0, 4);
-    choice::either((height >= INFINITY) | (across >= INFINITY), 1, outside)
+    choice::either(
+        (height >= F32::INFINITY.0) | (across >= F32::INFINITY.0),
+        1,
+        outside,
+    )
 }
 
 // Whether the gate of atan2 and hypot takes two words.
@@ -245,7 +244,7 @@ fn size_number(w: u32, limit: u32) -> u32
 {
     let size = F32(w).without_sign().0;
     let outside = choice::either(size > limit, 4, 0);
-    choice::either(size >= INFINITY, 1, outside)
+    choice::either(size >= F32::INFINITY.0, 1, outside)
 }
 
 // The word that stands beside the refusal.

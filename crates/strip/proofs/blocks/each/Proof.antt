@@ -1,10 +1,9 @@
 -- `strip::blocks::each` meets its contract: each place is filled by its refusal and the word beside it. Assumes
 -- nothing.
 use borrow.Author.Needs.{needs}
-use Prim.Native.Nat.{ℕ, _+_, _-_, _<_}
+use Prim.Native.Nat.{_-_}
 use native.Mathlib.Omega.{arith}
-use mathlib.Core.Path.{_≡_, sym, _∙_}
-use mathlib.Core.List.{List}
+use mathlib.Core.Path.{sym, _∙_}
 use lib.ListN.{length}
 use Rattle.strip.proofs.Sofar.{Sofar, none-filled, words-long, numbers-long, word-place, number-place, next-filled, filled}
 use Rattle.strip.proofs.blocks.each.Statement.{statement}

@@ -1,5 +1,4 @@
 -- `strip::blocks::fill` meets its contract: the blocks and what is left behind them are the strip. Assumes nothing.
-use borrow.Author.Needs.{needs}
 use Prim.Native.Nat.{ℕ, _+_, _-_, _*_, _^_, _≤_, _<_}
 use native.Mathlib.Nat.{le-refl, le-of-eq}
 use native.Mathlib.Omega.{arith}
@@ -47,6 +46,12 @@ module _ (c : tie.At-loop Inv-loop μ-loop) where
   scaled : i * 4 < 2 ^ 64
   scaled = omega (arith, c .loop .inv .within, start .good .1 .0 .1)
 
+loop-again : tie.Need-loop-again Inv-loop μ-loop
+loop-again c =
+    let t = c .before .before .before .before .before .before .before .before .before in
+    let l = t .before in
+    next-block _ (start l .pre) _ _ (l .loop .inv) (let z : i l ≤ i l + 32 = omega arith in z) (room l (t .loop-test .taken)) (c .before .before .before .before .block .ensures)
+
 -- ---- behind the loop
 
 module _ (c : tie.After-slice-known6 Inv-loop μ-loop) where
@@ -68,23 +73,23 @@ fill-spec =
     (λ c. record { fits = scaled (c .before) })
     (λ c. omega arith)
     (λ c. omega arith)
-    (λ c. room (c .before) (c .loop-test .taken))
+    (λ c. omega (arith, room (c .before) (c .loop-test .taken)))
     (λ c. record { fits = scaled (c .before .before) })
     (λ c. omega arith)
     (λ c. omega arith)
-    (λ c. rw (seconds (c .before .before)) (room (c .before .before) (c .before .loop-test .taken)))
+    (λ c. rw (seconds (c .before .before)) (omega (arith, room (c .before .before) (c .before .loop-test .taken))))
     (λ c. record { fits = scaled (c .before .before .before) })
     (λ c. omega arith)
     (λ c. omega arith)
-    (λ c. rw (words (c .before .before .before)) (room (c .before .before .before) (c .before .before .loop-test .taken)))
+    (λ c. rw (words (c .before .before .before)) (omega (arith, room (c .before .before .before) (c .before .before .loop-test .taken))))
     (λ c. record { fits = scaled (c .before .before .before .before) })
     (λ c. omega arith)
     (λ c. omega arith)
-    (λ c. rw (numbers (c .before .before .before .before)) (room (c .before .before .before .before) (c .before .before .before .loop-test .taken)))
+    (λ c. rw (numbers (c .before .before .before .before)) (omega (arith, room (c .before .before .before .before) (c .before .before .before .loop-test .taken))))
     (λ c κs. part-agrees _ (start (c .before .before .before .before .before) .pre) _ _ (c .before .before .before .before .before .loop .inv) (let z : i (c .before .before .before .before .before) ≤ i (c .before .before .before .before .before) + 32 = omega arith in z) (room (c .before .before .before .before .before) (c .before .before .before .before .loop-test .taken)))
     (λ c. record { fits = omega (arith, room (c .before .before .before .before .before .before .before .before .before .before) (c .before .before .before .before .before .before .before .before .before .loop-test .taken), start (c .before .before .before .before .before .before .before .before .before .before) .good .1 .0 .0) })
     (λ c. omega (arith, room (c .before .before .before .before .before .before .before .before .before .before) (c .before .before .before .before .before .before .before .before .before .loop-test .taken)))
-    (λ c. next-block _ (start (c .before .before .before .before .before .before .before .before .before .before) .pre) _ _ (c .before .before .before .before .before .before .before .before .before .before .loop .inv) (let z : i (c .before .before .before .before .before .before .before .before .before .before) ≤ i (c .before .before .before .before .before .before .before .before .before .before) + 32 = omega arith in z) (room (c .before .before .before .before .before .before .before .before .before .before) (c .before .before .before .before .before .before .before .before .before .loop-test .taken)) (c .before .before .before .before .block .ensures))
+    loop-again
     (λ c. record { fits = scaled (c .before) })
     (λ c. c .before .loop .inv .within)
     (λ c. c .before .loop .inv .within)

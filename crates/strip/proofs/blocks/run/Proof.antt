@@ -1,10 +1,9 @@
 -- `strip::blocks::run` meets its contract: in reach each place is filled by the steps alone. Assumes
 -- nothing.
 use borrow.Author.Needs.{needs}
-use Prim.Native.Nat.{ℕ, _+_, _-_, _<_}
+use Prim.Native.Nat.{_-_}
 use native.Mathlib.Omega.{arith}
-use mathlib.Core.Path.{_≡_, sym, _∙_}
-use mathlib.Core.List.{List}
+use mathlib.Core.Path.{sym, _∙_}
 use lib.ListN.{length}
 use Rattle.strip.proofs.Sofar.{Sofar, none-filled, words-long, numbers-long, word-place, number-place, next-filled, filled}
 use Rattle.strip.proofs.blocks.run.Statement.{statement}
@@ -32,7 +31,7 @@ run-spec =
     (λ c. search needs)
     (λ c. search needs)
     (λ c. let t = c .before .before in rw (start (t .before) .pre .0 .seconds) (t .loop-test .taken))
-    (λ c κs. let t = c .before .before in start (t .before) .pre .1 (t .before .loop .i) (t .loop-test .taken))
+    (λ c κs. let t = c .before .before in (start (t .before) .pre .1 (t .before .loop .i) (t .loop-test .taken), start (t .before) .pre .2))
     (λ c. search needs)
     (λ c. let t = c .before .before .before in word-place _ (start (t .before) .pre .0) _ (t .before .loop .inv) (t .loop-test .taken))
     (λ c. search needs)

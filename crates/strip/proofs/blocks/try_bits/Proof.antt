@@ -1,10 +1,9 @@
 -- `strip::blocks::try_bits` meets its contract: as long as the or-ed marks' highest bit is clear, the steps on the words so far are the answers. Assumes
 -- nothing.
 use borrow.Author.Needs.{needs}
-use Prim.Native.Nat.{ℕ, _+_, _-_, _^_, _≤_, _<_}
+use Prim.Native.Nat.{_-_, _^_, _≤_, _<_}
 use native.Mathlib.Omega.{arith}
 use mathlib.Core.Path.{_≡_, sym, _∙_}
-use mathlib.Core.List.{List}
 use borrow.Author.Tests.{ltb-true}
 use lib.ListN.{length, length-set}
 use Rattle.strip.proofs.Marks.{or-left, or-right}

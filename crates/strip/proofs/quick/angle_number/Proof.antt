@@ -12,5 +12,5 @@ angle-number-spec =
     (λ c κs. search needs)
     (λ c κs. search needs)
     (λ c κs. search needs)
-    (λ c. let a = c .before .before .before .before .before .args in cc (angle-number-is (a .y) (a .x))) in
+    (λ c. let a = c .before .before .before .before .before .before .before .args in cc (angle-number-is (a .y) (a .x))) in
     tie.close met

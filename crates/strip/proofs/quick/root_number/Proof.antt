@@ -12,5 +12,5 @@ root-number-spec =
     (λ c κs. search needs)
     (λ c κs. search needs)
     (λ c κs. search needs)
-    (λ c. cc (root-number-is (c .before .before .before .before .before .args .w))) in
+    (λ c. cc (root-number-is (c .before .before .before .before .before .before .args .w))) in
     tie.close met
