@@ -55,8 +55,8 @@ module _ (y x : ℕ) where
   abbrev n : ℕ
   n = magnitude binary32 x
 
-  pub angle-told : bitOr (bitOr (m + 0x217f_ffff) (n + 0x217f_ffff)) (0xffff_ffff - bitOr (m + 0x5e80_0000) (n + 0x5e80_0000)) < 2 ^ 31 → angleReach y x ≡ true
-  angle-told h = go (or-either (m + 0x5e80_0000) (n + 0x5e80_0000) (omega (arith, q)))
+  pair-told : bitOr (bitOr (m + 0x217f_ffff) (n + 0x217f_ffff)) (0xffff_ffff - bitOr (m + 0x5e80_0000) (n + 0x5e80_0000)) < 2 ^ 31 → angleReach y x ≡ true
+  pair-told h = go (or-either (m + 0x5e80_0000) (n + 0x5e80_0000) (omega (arith, q)))
     where
       p : bitOr (m + 0x217f_ffff) (n + 0x217f_ffff) < 2 ^ 31
       p = or-left (bitOr (m + 0x217f_ffff) (n + 0x217f_ffff)) (0xffff_ffff - bitOr (m + 0x5e80_0000) (n + 0x5e80_0000)) (2 ^ 31) h
@@ -73,3 +73,7 @@ module _ (y x : ℕ) where
       go : (2 ^ 31 ≤ m + 0x5e80_0000) ⊎ (2 ^ 31 ≤ n + 0x5e80_0000) → angleReach y x ≡ true
       go (inl k) = rw (height, across, le-leb 0x2180_0000 m (omega (arith, k)))
       go (inr k) = rw (height, across, le-leb 0x2180_0000 n (omega (arith, k))) (or-true (leb 0x2180_0000 m))
+
+pub angle-told : (y x a b : ℕ) → a ≡ magnitude binary32 y → b ≡ magnitude binary32 x
+    → bitOr (bitOr (a + 0x217f_ffff) (b + 0x217f_ffff)) (0xffff_ffff - bitOr (a + 0x5e80_0000) (b + 0x5e80_0000)) < 2 ^ 31 → angleReach y x ≡ true
+angle-told y x a b p q h = pair-told y x (rw (p, q) at h)

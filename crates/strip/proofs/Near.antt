@@ -26,6 +26,7 @@ use Rattle.format.proofs.Value.{word-value, value-word, lt-values, add-signed, 
 use Rattle.format.proofs.Whole.{floor-fits}
 use Rattle.float.specs.Engine.{ieee, floorOf}
 use Rattle.sizes.proofs.Words.{units-mono}
+use Rattle.guard.proofs.Order.{same-test}
 
 -- 3 * 2 ^ 22, as a whole number and as a value, and 1
 abbrev far : ℕ
@@ -146,13 +147,6 @@ one-less y n w l = rw (sub-signed binary32 y one (w .sign) false (w .amount) 1 1
 
 scaled : (v n m d : ℕ) → v + n ≡ m → v * d + n * d ≡ m * d
 scaled v n m d e = sym (add-mul v n d) ∙ ap (λ (k : ℕ). k * d) e
-
-same-test : (a b c e : ℕ) → (a < b → c < e) → (b ≤ a → e ≤ c) → ltb a b ≡ ltb c e
-same-test a b c e h k = go (ltb a b) refl
-  where
-    go : (t : Bool) → ltb a b ≡ t → t ≡ ltb c e
-    go true g = sym (lt-ltb c e (h (ltb-true a b g)))
-    go false g = sym (le-ltb c e (k (ltb-false a b g)))
 
 -- the whole number of sign i and size n, with far added, is at most q
 abbrev Reaches : Bool → ℕ → ℕ → Type 0

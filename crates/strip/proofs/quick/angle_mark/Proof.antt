@@ -13,5 +13,5 @@ angle-mark-spec =
     (λ c. search needs)
     (λ c. search needs)
     (λ c. search needs)
-    (λ c. let s = c .before .before in rw (c .before .without-sign .ensures, c .without-sign2 .ensures) (angle-told (s .args .y) (s .args .x))) in
+    (λ c. let s = c .before .before in angle-told (s .args .y) (s .args .x) (c .before .without-sign .result .0) (c .without-sign2 .result .0) (c .before .without-sign .ensures) (c .without-sign2 .ensures)) in
     tie.close met
