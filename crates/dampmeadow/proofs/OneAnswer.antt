@@ -24,6 +24,7 @@ use Rattle.dampmeadow.proofs.dampmeadow_words.Reads as words
 use Rattle.dampmeadow.proofs.dampmeadow_atan_norm.Reads as atan-norm
 use Rattle.dampmeadow.proofs.dampmeadow_atan_norm_guarded.Reads as atan-norm-guarded
 use Rattle.dampmeadow.proofs.dampmeadow_parts.Reads as parts-reads
+use Rattle.dampmeadow.proofs.dampmeadow_powi_products.Reads as powi-products
 use Rattle.dampmeadow.proofs.dampmeadow_recipe.Reads as recipe-reads
 use Rattle.dampmeadow.proofs.dampmeadow_strip.Reads as strip-reads
 use Rattle.dampmeadow.proofs.dampmeadow_floor_marked.Reads as floor-marked
@@ -45,6 +46,9 @@ dampmeadow-atan-norm κs = pinned _ (λ a r x p. p)
 
 pub dampmeadow-atan-norm-guarded : (κs : Lfts 0) → OneAnswer (atan-norm-guarded.Post κs) (λ r x. r)
 dampmeadow-atan-norm-guarded κs = pinned _ (λ a r x p. p)
+
+pub dampmeadow-powi-products : (κs : Lfts 0) → OneAnswer (powi-products.Post κs) (λ r x. r)
+dampmeadow-powi-products κs = pinned _ (λ a r x p. p)
 
 pub dampmeadow-answer : (κs : Lfts 2) → OneAnswer (answer-reads.Post κs) (λ r x. seen r (now (x .1 .0)))
 dampmeadow-answer κs =

@@ -2,14 +2,17 @@
 // of the engine without floats are in engine.rt.
 ghost use mathlib.Core.Path.{_≡_};
 ghost use lib.Ieee.{binary32, ofBits};
+ghost use mir.Syntax.{w32};
+ghost use mir.Val.{ofZ};
 ghost use Rattle.format.specs.Parts.{truncWord, fractWord};
 ghost use Rattle.format.specs.Sign.{turnedWord};
 ghost use Rattle.format.specs.Whole.{floorWord, ceilWord};
 ghost use Rattle.float.specs.Engine.{ieee};
 ghost use Rattle.float.specs.Atan.{atanNormWord};
 ghost use Rattle.float.specs.Marks.{markOf, numberOf};
-ghost use Rattle.guard.specs.Operations.{opAtan, opTrunc};
+ghost use Rattle.guard.specs.Operations.{opAtan, opPowi, opTrunc};
 ghost use Rattle.guard.specs.Refusals.{refusalOf};
+ghost use Rattle.guard.specs.Guarded.{productsGiven};
 ghost use Rattle.frame.specs.Words.{packed, answerWords, wordBeside, wordsOf};
 ghost use Rattle.frame.specs.Frame.{returned, left};
 ghost use Rattle.recipe.specs.Answers.{AnswersWords};
@@ -96,6 +99,15 @@ pub extern "C" fn dampmeadow_parts(a: u32, whole: &mut u32, rest: &mut u32) -> u
     *whole = answer.word();
     *rest = answer.second_word();
     answer.refusal()
+}
+
+// How many products guarded powi forms for its answer to a word and a power: 0 where the call is
+// refused, for the power 0 and where it gives up early, and 39 at most.
+#[no_mangle]
+pub extern "C" fn dampmeadow_powi_products(a: u32, n: i32) -> u32
+    ensures { λ r. ⌜ r ≡ productsGiven opPowi a (ofZ w32 n) ⌝ }
+{
+    guard::powi(F32(a), n).products
 }
 
 // Raw floor, with the mark of the cast to an integer that it makes: the mark's number in the high 32

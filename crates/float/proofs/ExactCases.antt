@@ -14,7 +14,7 @@ use Rattle.float.specs.Engine.{ieee}
 use Rattle.float.specs.Recip.{correction, recipWord}
 use Rattle.float.specs.Exp.{series, powerWord, expWord}
 use Rattle.float.specs.Ln.{polynomial, logarithm, lnWord}
-use Rattle.float.specs.Powi.{works, powiWord}
+use Rattle.float.specs.Powi.{works, powiWord, productsOf}
 use Rattle.float.specs.Powf.{powfWord}
 use Rattle.float.specs.Cos.{cosWord, sinWord}
 use Rattle.float.specs.Atan.{atanNormWord, atanWord}
@@ -182,6 +182,36 @@ rows =
     ∷ powiWord 0x3fc0_0000 (pos 10) gives 0x4266_a900
     ∷ powiWord 0x3fc0_0000 (negsuc 6) gives 0x3d6f_bab8
     ∷ powiWord 0x7fc0_0000 (negsuc 0) gives 0x7fc0_0000
+    -- its products, on both sides of each test: a power 0, the least, and 1; a zero and the least number above it
+    ∷ productsOf 0x3f80_0000 (pos 0) gives 0
+    ∷ productsOf 0x3f80_0000 (negsuc 2147483647) gives 0
+    ∷ productsOf 0x3f80_0000 (negsuc 2147483646) gives 61
+    ∷ productsOf 0x3f80_0000 (pos 1) gives 1
+    ∷ productsOf 0x3f80_0000 (negsuc 0) gives 1
+    ∷ productsOf 0x0000_0000 (pos 1) gives 0
+    ∷ productsOf 0x8000_0000 (pos 1) gives 0
+    ∷ productsOf 0x0000_0001 (pos 1) gives 1
+    ∷ productsOf 0x8000_0000 (negsuc 0) gives 1
+    ∷ productsOf 0x8000_0000 (negsuc 1) gives 0
+    -- both sides of 0.5 and of 2, then of 127 and of -149
+    ∷ productsOf 0x3eff_ffff (pos 75) gives 0
+    ∷ productsOf 0x3f00_0000 (pos 75) gives 10
+    ∷ productsOf 0x3fff_ffff (pos 128) gives 8
+    ∷ productsOf 0x4000_0000 (pos 128) gives 0
+    ∷ productsOf 0x4000_0000 (pos 127) gives 13
+    ∷ productsOf 0xbeff_ffff (negsuc 63) gives 0
+    ∷ productsOf 0xbeff_ffff (negsuc 62) gives 11
+    ∷ productsOf 0x4000_0000 (negsuc 148) gives 11
+    ∷ productsOf 0x4000_0000 (negsuc 149) gives 0
+    ∷ productsOf 0x4040_0000 (pos 128) gives 0
+    -- the most, and one more
+    ∷ productsOf 0x3f80_0000 (pos 1048575) gives 39
+    ∷ productsOf 0xbfff_ffff (negsuc 1048574) gives 39
+    ∷ productsOf 0x3f00_0000 (pos 1048576) gives 21
+    -- a NaN and an infinity, by their exponent alone
+    ∷ productsOf 0x7fc0_0000 (pos 1) gives 0
+    ∷ productsOf 0x7fc0_0000 (negsuc 0) gives 1
+    ∷ productsOf 0x7f80_0000 (negsuc 1) gives 0
     -- powf: from 0 and below, and what the Rust takes for whole and for even
     ∷ powfWord 0x0000_0000 0x3f80_0000 gives 0x0000_0000
     ∷ powfWord 0x8000_0000 0x3f80_0000 gives 0x04ac_858c
@@ -312,5 +342,5 @@ rows =
     ∷ []
 
 pub exact : agree rows ≡ true
-unfolding written correction recipWord series powerWord expWord polynomial logarithm lnWord works powiWord powfWord cosWord sinWord atanNormWord atanWord quarters atan2Word hypotWord asinWord acosWord tanWord remEuclidWord divEuclidWord add sub mul div rem lt le eq nanBits ofBits toBits ofInt toSigned
+unfolding written correction recipWord series powerWord expWord polynomial logarithm lnWord works powiWord productsOf powfWord cosWord sinWord atanNormWord atanWord quarters atan2Word hypotWord asinWord acosWord tanWord remEuclidWord divEuclidWord add sub mul div rem lt le eq nanBits ofBits toBits ofInt toSigned
 exact = refl

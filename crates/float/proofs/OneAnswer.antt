@@ -8,7 +8,9 @@ use Rattle.format.specs.Whole.{floorWord, ceilWord}
 use Rattle.format.proofs.Pinned.{OneAnswer, pinned}
 use Rattle.float.specs.declared.mark.Mark.{Mark}
 use Rattle.float.specs.declared.mark.Marked.{Marked}
+use Rattle.float.specs.declared.powi.Counted.{Counted}
 use Rattle.float.specs.Marks.{markOf}
+use Rattle.float.specs.Powi.{powiWord, productsOf}
 use Rattle.float.proofs.F32.from_bits.Reads as from-bits
 use Rattle.float.proofs.F32.to_bits.Reads as to-bits
 use Rattle.float.proofs.F32.value.Reads as value
@@ -42,6 +44,7 @@ use Rattle.float.proofs.F32.ln.Reads as ln
 use Rattle.float.proofs.F32.hypot.Reads as hypot
 use Rattle.float.proofs.F32.cos.Reads as cos
 use Rattle.float.proofs.F32.powi.Reads as powi
+use Rattle.float.proofs.F32.powi_counted.Reads as powi-counted
 use Rattle.float.proofs.F32.powf.Reads as powf
 use Rattle.float.proofs.F32.signum.Reads as signum
 use Rattle.float.proofs.F32.sin.Reads as sin
@@ -71,6 +74,9 @@ use Rattle.float.proofs.cos.of_word.Reads as cos-of-word-reads
 
 abbrev marked : ℕ → Mark → Marked
 marked w m = record { number = record { 0 = w }; mark = m }
+
+abbrev counted : ℕ → ℕ → Counted
+counted w p = record { number = record { 0 = w }; products = p }
 
 module _ (κs : Lfts 0) where
   -- ---- the number type and its two conversions
@@ -221,6 +227,9 @@ module _ (κs : Lfts 0) where
 
   pub F32-powi : OneAnswer (powi.Post κs) (λ r x. r .0)
   F32-powi = pinned _ (λ a r x p. p)
+
+  pub F32-powi-counted : OneAnswer (powi-counted.Post κs) (λ r x. r)
+  F32-powi-counted = pinned (λ a. counted (powiWord (a .0 .0) (a .1 .0)) (productsOf (a .0 .0) (a .1 .0))) (λ a r x p. rw (p .0, p .1))
 
   pub F32-cos : OneAnswer (cos.Post κs) (λ r x. r .0)
   F32-cos = pinned _ (λ a r x p. p)

@@ -1,11 +1,12 @@
 -- powi's steps, for every word and every power: the answers given early, in their order, and then squaring, as the list of what is held
--- after each product. Definitions only.
+-- after each product; and how many products that is. Definitions only.
 use Prim.Native.Nat.{ℕ, zero, suc, _*_, _/_, _%_, _^_}
 use mathlib.Core.Bool.{Bool, not, cond, _&&_, _||_}
 use mathlib.Core.List.{List, [], _∷_, _++_}
 use mathlib.Core.Option.{Option, none, some, Option·getD}
 use lib.Dec.{eqb}
 use lib.IntN.{ℤ, pos, negsuc, natAbs}
+use lib.ListN.{length}
 use lib.Signed.{ltZ}
 use lib.Ieee.{Float, binary32, mul, div, lt, le, eq, ofBits, toBits}
 use mir.Syntax.{w32}
@@ -13,6 +14,7 @@ use mir.Val.{ofZ, toZ}
 use Rattle.format.specs.Fields.{negative}
 use Rattle.format.specs.Sign.{absWord}
 use Rattle.format.specs.Exponent.{exponentValue}
+use Rattle.float.specs.declared.powi.Held.{Held}
 
 -- ---- squaring
 
@@ -97,3 +99,18 @@ early w n =
 
 unfoldable pub powiWord : ℕ → ℤ → ℕ
 powiWord w n = Option·getD (early w n) (squaringWord w n)
+
+-- ---- how much work it took
+
+-- what is held after each product that is formed for an answer: nothing where it is given early
+abbrev pub formed : Option ℕ → List Work → List Work
+formed none l = l
+formed (some v) l = []
+
+-- as many products as there are in the list that the answer is the end of
+unfoldable pub productsOf : ℕ → ℤ → ℕ
+productsOf w n = length (formed (early w n) (powiWorks w n))
+
+-- what the code holds, but for its count
+abbrev pub workOf : Held → Work
+workOf h = record { base = h .base; result = h .result }

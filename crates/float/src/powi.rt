@@ -1,39 +1,65 @@
 // A number raised to an integer power, by squaring.
 // Method: https://stackoverflow.com/a/101613
 ghost use mathlib.Core.Path.{_≡_};
-ghost use mathlib.Core.Bool.{cond, _&&_};
-ghost use Prim.Native.Nat.{_%_};
-ghost use lib.Dec.{eqb};
+ghost use mathlib.Core.Bool.{_&&_};
+ghost use Prim.Native.Nat.{_+_, _≤_};
 ghost use lib.IntN.{pos, natAbs};
+ghost use lib.ListN.{length};
 ghost use lib.Signed.{ltZ};
-ghost use lib.Ieee.{binary32, mul};
-ghost use Rattle.float.specs.Powi.{works, ended, from, start, squaringWord, isZero, isNearOne, approx, isPast, infinite, powiWord};
+ghost use Rattle.float.specs.Powi.{squared, ended, taken, works, from, start, powiWorks, squaringWord, isZero, isNearOne, approx, isPast, infinite, powiWord, productsOf, workOf};
 use crate::F32;
 use crate::cast;
 use crate::wrap;
 
+// A number, and how many products were formed for it.
+pub struct Counted {
+    pub number: F32,
+    pub products: u32,
+}
+
+impl Counted {
+    // An answer that is given early, with no product.
+    fn early(number: F32) -> Counted
+        ensures number { λ r. ⌜ r .number ≡ number ⌝ }
+        ensures products { λ r. ⌜ r .products ≡ 0 ⌝ }
+    {
+        Counted {
+            number: number,
+            products: 0,
+        }
+    }
+}
+
 impl F32 {
-    // Where the power is the least integer, whose magnitude is no integer, the answer is a NaN.
     pub fn powi(self, n: i32) -> F32
         ensures { λ r. ⌜ r .0 ≡ powiWord (self .0) n ⌝ }
     {
+        self.powi_counted(n).number
+    }
+
+    // With how many products it took. Where the power is the least integer, whose magnitude is no
+    // integer, the answer is a NaN.
+    pub fn powi_counted(self, n: i32) -> Counted
+        ensures number { λ r. ⌜ r .number .0 ≡ powiWord (self .0) n ⌝ }
+        ensures products { λ r. ⌜ r .products ≡ productsOf (self .0) n ⌝ }
+    {
         if n == i32::MIN {
-            return F32::NAN;
+            return Counted::early(F32::NAN);
         }
         if n == 0 {
-            return F32::ONE;
+            return Counted::early(F32::ONE);
         }
         if is_zero_and_stays(self, n) {
-            return self;
+            return Counted::early(self);
         }
         if is_near_one(self) {
             return multiplied(self, n);
         }
         if is_past(self, n) {
-            return infinite(self, n);
+            return Counted::early(infinite(self, n));
         }
         if approx(self, n) < -149 {
-            return F32::ZERO;
+            return Counted::early(F32::ZERO);
         }
         multiplied(self, n)
     }
@@ -99,10 +125,15 @@ fn infinite(x: F32, n: i32) -> F32
     F32::NEG_INFINITY
 }
 
-fn multiplied(x: F32, n: i32) -> F32
-    ensures { λ r. ⌜ r .0 ≡ squaringWord (x .0) n ⌝ }
+fn multiplied(x: F32, n: i32) -> Counted
+    ensures number { λ r. ⌜ r .number .0 ≡ squaringWord (x .0) n ⌝ }
+    ensures products { λ r. ⌜ r .products ≡ length (powiWorks (x .0) n) ⌝ }
 {
-    F32::of(raised(base(x, n), magnitude(n)))
+    let held = raised(base(x, n), magnitude(n));
+    Counted {
+        number: F32::of(held.result),
+        products: held.products,
+    }
 }
 
 fn base(x: F32, n: i32) -> f32
@@ -125,26 +156,55 @@ fn magnitude(n: i32) -> u32
     0xffff_ffff - word + 1
 }
 
-fn raised(base: f32, magnitude: u32) -> f32
-    ensures { λ r. ⌜ r ≡ ended (from base) (works 32 magnitude (from base)) .result ⌝ }
-{
-    let mut square = base;
-    let mut result: f32 = 1.0;
-    let mut m = magnitude;
-    while m > 1 {
-        result = taken(square, result, m);
-        square = square * square;
-        m = m / 2;
-    }
-    taken(square, result, m)
+// What is held between two products, and how many were formed before.
+struct Held {
+    base: f32,
+    result: f32,
+    products: u32,
 }
 
-// The result with the base in it where the lowest bit of m is set.
-fn taken(base: f32, result: f32, m: u32) -> f32
-    ensures { λ r. ⌜ r ≡ cond (eqb (m % 2) 1) (mul binary32 result base) result ⌝ }
+fn raised(base: f32, magnitude: u32) -> Held
+    ensures work { λ r. ⌜ workOf r ≡ ended (from base) (works 32 magnitude (from base)) ⌝ }
+    ensures products { λ r. ⌜ r .products ≡ length (works 32 magnitude (from base)) ⌝ }
+{
+    let mut held = Held {
+        base: base,
+        result: 1.0,
+        products: 0,
+    };
+    let mut m = magnitude;
+    while m > 1 {
+        held = squared(taken(held, m));
+        m = m / 2;
+    }
+    taken(held, m)
+}
+
+// The base taken into the result, a product, where the lowest bit of m is set.
+fn taken(held: Held, m: u32) -> Held
+    requires { ⌜ held .products ≤ 63 ⌝ }
+    ensures work { λ r. ⌜ workOf r ≡ ended (workOf held) (taken m (workOf held)) ⌝ }
+    ensures products { λ r. ⌜ r .products ≡ held .products + length (taken m (workOf held)) ⌝ }
 {
     if m % 2 == 1 {
-        return result * base;
+        return Held {
+            base: held.base,
+            result: held.result * held.base,
+            products: held.products + 1,
+        };
     }
-    result
+    held
+}
+
+// The base by itself, a product.
+fn squared(held: Held) -> Held
+    requires { ⌜ held .products ≤ 63 ⌝ }
+    ensures work { λ r. ⌜ workOf r ≡ squared (workOf held) ⌝ }
+    ensures products { λ r. ⌜ r .products ≡ held .products + 1 ⌝ }
+{
+    Held {
+        base: held.base * held.base,
+        result: held.result,
+        products: held.products + 1,
+    }
 }

@@ -25,7 +25,7 @@ Both w r = GivesParts w r × ((Answered r → IsTrunc binary32 w (wordOf r)) × 
 pub both-refused : (w n : ℕ) → n ≡ refusalOf opTrunc w 0 → (n ≡ 0 → ⊥) → Both w (refusedWith n)
 both-refused w zero e h = absurd (h refl)
 both-refused w (suc n) e h = (
-  record { answer = rw (sym e); refusal = e; word = rw (sym e, ne-eqb (suc n) 0 h); second = rw (sym e, ne-eqb (suc n) 0 h) },
+  record { answer = rw (sym e); refusal = e; word = rw (sym e, ne-eqb (suc n) 0 h); second = rw (sym e, ne-eqb (suc n) 0 h); count = refl },
   ((λ z. absurd z), (λ z. absurd z)),
 )
 
@@ -40,9 +40,9 @@ module _ (w : ℕ) (w-lt : w < 2 ^ 32) (none : refusalOf opTrunc w 0 ≡ 0) wher
   rest : (t : ℕ) → t < 2 ^ 32 → t ≡ fractWord binary32 w → toBits binary32 (ofBits binary32 t) ≡ fractWord binary32 w
   rest t h e = kept-word t h (rw e (fract-number w inside)) ∙ e
 
-  pub both-answered : (t s : ℕ) → t < 2 ^ 32 → s < 2 ^ 32 → t ≡ truncWord binary32 w → s ≡ fractWord binary32 w → Both w (record { result = Parts (ofBits binary32 t) (ofBits binary32 s) })
+  pub both-answered : (t s : ℕ) → t < 2 ^ 32 → s < 2 ^ 32 → t ≡ truncWord binary32 w → s ≡ fractWord binary32 w → Both w (record { result = Parts (ofBits binary32 t) (ofBits binary32 s); products = 0 })
   both-answered t s h k e d = (
-    record { answer = rw (none, e, d); refusal = sym none; word = rw none (whole t h e); second = rw none (rest s k d) },
+    record { answer = rw (none, e, d); refusal = sym none; word = rw none (whole t h e); second = rw none (rest s k d); count = refl },
     ((λ z. rw (whole t h e) (trunc-under32 w w-lt inside)), (λ z. rw (rest s k d) (fract-under32 w inside))),
   )
 

@@ -9,7 +9,7 @@ use lib.Ieee.Bits.{toBits-ofBits, nanBits-is}
 use Rattle.guard.specs.declared.Guarded.{Guarded}
 use Rattle.guard.specs.declared.Guarded.the-variants.{Number}
 use Rattle.guard.specs.declared.Answer.{Answer}
-use Rattle.guard.specs.Guarded.{wordOf, Answered, refusedWith, given, Gives}
+use Rattle.guard.specs.Guarded.{wordOf, Answered, refusedWith, givenAfter, GivesAfter}
 
 -- a word that is no NaN is its number's word
 pub kept-word : (w : ℕ) → w < 2 ^ 32 → nanBits binary32 w ≡ false → toBits binary32 (ofBits binary32 w) ≡ w
@@ -17,24 +17,28 @@ kept-word w h n = toBits-ofBits binary32 w h (subst (λ (b : Bool). T (not b)) (
 
 -- ---- the two ways out of a guarded call
 
-pub refused : (n w : ℕ) → (n ≡ 0 → ⊥) → Gives n w (refusedWith n)
+pub refused : {p : ℕ} (n w : ℕ) → (n ≡ 0 → ⊥) → GivesAfter p n w (refusedWith n)
 refused zero w h = absurd (h refl)
-refused (suc n) w h = record { answer = refl; refusal = refl; word = rw (ne-eqb (suc n) 0 h) }
+refused (suc n) w h = let z = ne-eqb (suc n) 0 h in record { answer = refl; refusal = refl; word = rw z; count = rw z }
 
-pub numbered : (n w : ℕ) → w < 2 ^ 32 → n ≡ 0 → nanBits binary32 w ≡ false → Gives n w (record { result = Number (ofBits binary32 w) })
-numbered n w h e k = rw e (record { answer = refl; refusal = refl; word = kept-word w h k })
+pub numbered : {p : ℕ} (n w : ℕ) → w < 2 ^ 32 → n ≡ 0 → nanBits binary32 w ≡ false → GivesAfter p n w (record { result = Number (ofBits binary32 w); products = p })
+numbered n w h e k = rw e (record { answer = refl; refusal = refl; word = kept-word w h k; count = refl })
 
 -- ---- an answer is given exactly where there is no refusal
 
-none-of : (n : ℕ) (g : Guarded) → Answered (given n g) → n ≡ 0
-none-of zero g h = refl
-none-of (suc n) g h = absurd h
+none-of : (p n : ℕ) (g : Guarded) → Answered (givenAfter p n g) → n ≡ 0
+none-of p zero g h = refl
+none-of p (suc n) g h = absurd h
 
-pub answered-none : {n w : ℕ} {r : Answer} → Gives n w r → Answered r → n ≡ 0
-answered-none {n} {w} g h = none-of n (Number (ofBits binary32 w)) (subst Answered (g .answer) h)
+module _ {p n w : ℕ} {r : Answer} (g : GivesAfter p n w r) where
+  pub answered-none : Answered r → n ≡ 0
+  answered-none h = none-of p n (Number (ofBits binary32 w)) (subst Answered (g .answer) h)
 
-pub none-answered : {n w : ℕ} {r : Answer} → Gives n w r → n ≡ 0 → Answered r
-none-answered {n} {w} g e = subst Answered (sym (g .answer ∙ ap (λ (m : ℕ). given m (Number (ofBits binary32 w))) e)) tt
+  pub none-answered : n ≡ 0 → Answered r
+  none-answered e = subst Answered (sym (g .answer ∙ ap (λ (m : ℕ). givenAfter p m (Number (ofBits binary32 w))) e)) tt
 
-pub answered-word : {n w : ℕ} {r : Answer} → Gives n w r → Answered r → wordOf r ≡ w
-answered-word {n} {w} g h = g .word ∙ ap (λ (m : ℕ). cond (eqb m 0) w 0) (answered-none g h)
+  pub answered-word : Answered r → wordOf r ≡ w
+  answered-word h = g .word ∙ ap (λ (m : ℕ). cond (eqb m 0) w 0) (answered-none h)
+
+  pub answered-count : Answered r → r .products ≡ p
+  answered-count h = g .count ∙ ap (λ (m : ℕ). cond (eqb m 0) p 0) (answered-none h)

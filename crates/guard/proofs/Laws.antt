@@ -1,5 +1,5 @@
--- What holds of every guarded call. `Gives n w r` is what each promises of its answer r: `Guards op a b r` for an operation by name,
--- `GuardsByNumber op a b r` by number, and the same with atan_norm's word. Assumes nothing.
+-- What holds of every guarded call. `GivesAfter p n w r` is what each promises of its answer r: `Guards op a b r` for an operation by name,
+-- `GuardsByNumber op a b r` by number, and the same with atan_norm's word. How many products were formed is in Counts. Assumes nothing.
 use Prim.Native.Nat.{ℕ, zero, suc, _^_, _<_}
 use native.Mathlib.Nat.{lt-of-lt-of-le}
 use native.Mathlib.Omega.{arith}
@@ -22,7 +22,7 @@ use Rattle.guard.specs.declared.Answer.{Answer}
 use Rattle.guard.specs.Operations.{opSqrt, opRemEuclid, opDivEuclid}
 use Rattle.guard.specs.Gates.{gateOf, passes, judged}
 use Rattle.guard.specs.Refusals.{Refusal, refusals, holds, refusalBehind, refusalOf}
-use Rattle.guard.specs.Guarded.{given, refusalGiven, wordOf, secondOf, Answered, Gives, valueOf, Guards, refusalByNumber, GuardsByNumber}
+use Rattle.guard.specs.Guarded.{givenAfter, refusalGiven, wordOf, secondOf, Answered, GivesAfter, valueOf, productsAt, Guards, refusalByNumber, GuardsByNumber}
 use Rattle.guard.proofs.Each.{Each, done, _⨟_, of-each}
 use Rattle.guard.proofs.First.{NoneHolds, first-given, none-given, none-holds}
 use Rattle.guard.proofs.Gives.{answered-none, none-answered, answered-word}
@@ -31,8 +31,8 @@ use Rattle.guard.proofs.NoNan.{no-nan}
 
 -- ---- any call
 
-module _ (n w : ℕ) (r : Answer) (g : Gives n w r) where
-  second-zero : (n w : ℕ) → secondOf (given n (Number (ofBits binary32 w))) ≡ 0
+module _ {p : ℕ} (n w : ℕ) (r : Answer) (g : GivesAfter p n w r) where
+  second-zero : (n w : ℕ) → secondOf (givenAfter p n (Number (ofBits binary32 w))) ≡ 0
   second-zero zero w = refl
   second-zero (suc n) w = refl
 
@@ -40,7 +40,7 @@ module _ (n w : ℕ) (r : Answer) (g : Gives n w r) where
   pub refused-words-are-zero : (Answered r → ⊥) → (wordOf r ≡ 0) × (secondOf r ≡ 0)
   refused-words-are-zero h = (g .word ∙ rw (ne-eqb n 0 (λ e. h (none-answered g e))), ap secondOf (g .answer) ∙ second-zero n w)
 
-  taken-out : (n : ℕ) (x y : Float) → given n (Number x) .result ≡ Number y → (n ≡ 0) × (x ≡ y)
+  taken-out : (n : ℕ) (x y : Float) → givenAfter p n (Number x) .result ≡ Number y → (n ≡ 0) × (x ≡ y)
   taken-out zero x y e = (refl, cc)
   taken-out (suc n) x y e = absurd (let z : _≡_ {A = ℕ} 0 1 = cc in omega arith)
 
@@ -95,7 +95,7 @@ by-kernel : (op a b : ℕ) → eqb (operandsOf (kernelOf op)) 0 ≡ false → re
 by-kernel op a b k = ap (λ (t : Bool). cond t 6 (refusalOf op a b)) k
 
 pub by-number : (op a b : ℕ) (r s : Answer) → eqb (operandsOf (kernelOf op)) 0 ≡ false → Guards op a b r → GuardsByNumber op a b s → s ≡ r
-by-number op a b r s k g n = n .answer ∙ ap (λ (m : ℕ). given m (Number (ofBits binary32 (valueOf op a b)))) (by-kernel op a b k) ∙ sym (g .answer)
+by-number op a b r s k g n = n .answer ∙ ap (λ (m : ℕ). givenAfter (productsAt op a b) m (Number (ofBits binary32 (valueOf op a b)))) (by-kernel op a b k) ∙ sym (g .answer)
 
 -- one that has none is refused with 6 and the zero word
 pub unknown-is-refused : (op a b : ℕ) (r : Answer) → kernelOf op ≡ none → GuardsByNumber op a b r → (refusalGiven r ≡ 6) × (wordOf r ≡ 0)

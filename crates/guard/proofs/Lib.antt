@@ -11,6 +11,7 @@ pub mod NoNan
 mod Guards
 pub mod Meaning
 pub mod Laws
+pub mod Counts
 pub mod Edges
 pub mod Both
 pub mod OneAnswer

@@ -12,7 +12,7 @@ ghost use Rattle.float.specs.Atan.{atanNormWord};
 ghost use Rattle.float.specs.RemEuclid.{LeftBy};
 ghost use Rattle.guard.specs.Operations.{opTrunc, opFract, opFloor, opCeil, opRound, opAbs, opCopysign, opSignum, opSqrt, opInvsqrt, opInv, opRecip, opExp, opLn, opPowi, opPowf, opAtan, opAtan2, opCos, opSin, opHypot, opAsin, opAcos, opTan, opRemEuclid, opDivEuclid};
 ghost use Rattle.guard.specs.Refusals.{refusalOf};
-ghost use Rattle.guard.specs.Guarded.{refusalGiven, wordOf, secondOf, Answered, refusedWith, Gives, Guards, TurnsSign, GuardsByNumber, GivesParts};
+ghost use Rattle.guard.specs.Guarded.{refusalGiven, wordOf, secondOf, Answered, refusedWith, GivesAfter, Gives, Guards, TurnsSign, GuardsByNumber, GivesParts};
 use float::F32;
 use float::cast;
 
@@ -28,9 +28,11 @@ pub enum Guarded {
     Refused(u32),
 }
 
-// The answer that all guarded calls share.
+// The answer that all guarded calls share: the result, and how many products powi formed for it. Of
+// every other call those are 0, and of every refusal.
 pub struct Answer {
     pub result: Guarded,
+    pub products: u32,
 }
 
 impl Answer {
@@ -191,6 +193,7 @@ pub fn inv(x: F32) -> Answer
     // No NaN behind the gate, so its bits are a float's as they are.
     Answer {
         result: Guarded::Number(f32::from_bits(x.inv().0)),
+        products: 0,
     }
 }
 
@@ -221,17 +224,21 @@ pub fn ln(x: F32) -> Answer
     )
 }
 
+// With the products that it took: none for the power 0 or where it gives up early, else one at least
+// and 39 at most.
 pub fn powi(x: F32, n: i32) -> Answer
     ensures { λ r. ⌜ Guards opPowi (x .0) (ofZ w32 n) r ⌝ }
 {
-    answered(
+    let power = x.powi_counted(n);
+    counted(
         refusal::first(
             gate::of(number::POWI),
             number::POWI,
             x,
             cast::bits_of_i32(n),
         ),
-        x.powi(n),
+        power.number,
+        power.products,
     )
 }
 
@@ -362,6 +369,7 @@ pub fn parts(x: F32) -> Answer
     }
     Answer {
         result: Guarded::Parts(x.trunc().value(), x.fract().value()),
+        products: 0,
     }
 }
 
@@ -407,6 +415,7 @@ fn refused(refusal: u32) -> Answer
 {
     Answer {
         result: Guarded::Refused(refusal),
+        products: 0,
     }
 }
 
@@ -415,10 +424,18 @@ fn refused(refusal: u32) -> Answer
 fn answered(refusal: u32, word: F32) -> Answer
     ensures { λ r. ⌜ ((refusal ≡ 0 → nanBits binary32 (word .0) ≡ false) → Gives refusal (word .0) r) ⌝ }
 {
+    counted(refusal, word, 0)
+}
+
+// The same for a number that took some products.
+fn counted(refusal: u32, word: F32, products: u32) -> Answer
+    ensures { λ r. ⌜ ((refusal ≡ 0 → nanBits binary32 (word .0) ≡ false) → GivesAfter products refusal (word .0) r) ⌝ }
+{
     if refusal != 0 {
         return refused(refusal);
     }
     Answer {
         result: Guarded::Number(word.value()),
+        products: products,
     }
 }

@@ -5,6 +5,7 @@ use Rattle.probe.proofs.probe_to_i32.Reads as to-i32
 use Rattle.probe.proofs.probe_cast_marked.Reads as cast-marked
 use Rattle.probe.proofs.probe_from_i32.Reads as from-i32
 use Rattle.probe.proofs.probe_from_u32.Reads as from-u32
+use Rattle.probe.proofs.probe_powi_products.Reads as powi-products
 use Rattle.probe.proofs.probe_value.Reads as value
 use Rattle.probe.proofs.probe_exponent_bits.Reads as exponent-bits
 use Rattle.probe.proofs.probe_exponent_value.Reads as exponent-value
@@ -26,6 +27,9 @@ module _ (κs : Lfts 0) where
 
   pub probe-from-u32 : OneAnswer (from-u32.Post κs) (λ r x. r)
   probe-from-u32 = pinned _ (λ a r x p. p)
+
+  pub probe-powi-products : OneAnswer (powi-products.Post κs) (λ r x. r)
+  probe-powi-products = pinned _ (λ a r x p. p)
 
   pub probe-value : OneAnswer (value.Post κs) (λ r x. r)
   probe-value = pinned _ (λ a r x p. p)

@@ -1,5 +1,5 @@
 // Exported calls for the comparison alone: the casts and helpers of `float`, which the crate keeps
-// to itself and no frame reaches. No crate stands on it.
+// to itself and no frame reaches, and raw powi's count. No crate stands on it.
 ghost use mathlib.Core.Path.{_≡_};
 ghost use mathlib.Core.Bool.{Bool, cond};
 ghost use Prim.Native.Nat.{_+_, _*_, _%_, _^_};
@@ -10,6 +10,7 @@ ghost use mir.Syntax.{w32};
 ghost use Rattle.format.specs.Fields.{exponent, magnitude};
 ghost use Rattle.format.specs.Exponent.{exponentValue, setExponentWord, isIntegerWord, isEvenWord};
 ghost use Rattle.float.specs.Marks.{markOf, numberOf};
+ghost use Rattle.float.specs.Powi.{productsOf};
 ghost use lib.ListN.{getD};
 ghost use Rattle.probe.specs.Constants.{constants};
 use float::F32;
@@ -44,6 +45,14 @@ pub extern "C" fn probe_from_u32(n: u32) -> u32
     ensures { λ r. ⌜ r ≡ toBits binary32 (ofInt binary32 (pos n)) ⌝ }
 {
     F32::of(float::cast::from_u32(n)).0
+}
+
+// How many products raw powi forms.
+#[no_mangle]
+pub extern "C" fn probe_powi_products(a: u32, n: i32) -> u32
+    ensures { λ r. ⌜ r ≡ productsOf a n ⌝ }
+{
+    F32(a).powi_counted(n).products
 }
 
 // A float through the language's own type and back: every NaN becomes 7fc00000.

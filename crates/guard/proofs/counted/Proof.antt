@@ -1,11 +1,11 @@
--- `guard::answered` meets its contract. Assumes nothing.
+-- `guard::counted` meets its contract. Assumes nothing.
 use borrow.Author.Needs.{needs}
 use Rattle.guard.proofs.Gives.{refused, numbered}
-use Rattle.guard.proofs.answered.Statement.{statement}
-use Rattle.guard.proofs.answered.Tie as tie
+use Rattle.guard.proofs.counted.Statement.{statement}
+use Rattle.guard.proofs.counted.Tie as tie
 
-pub answered-spec : {M : Type 1} → statement M
-answered-spec =
+pub counted-spec : {M : Type 1} → statement M
+counted-spec =
     tie.close
     (tie.spec
     (λ c κs. search needs)
