@@ -227,6 +227,22 @@ uint32_t dampmeadow_atan_norm(uint32_t a);
  */
 uint32_t dampmeadow_parts(uint32_t a, uint32_t *whole, uint32_t *rest);
 
+/* How much work a power took: how many products of two floats guarded powi formed for its answer.
+ *
+ * In:   a, the word of x; n, the power, a number with a sign, and no word as b of dampmeadow_words is.
+ * Back: the products. There is one for each binary digit of n but the first, which squares, and one for each digit that is 1,
+ *       which goes into the result: 39 at most, for 1048575 and -1048575. The division that a negative power begins with is
+ *       none. 0 where dampmeadow_words refuses the call, for the power 0, and where powi answers early, with an infinity or 0,
+ *       because x by its exponent is too large or too small for the power. Every word and every power may be asked for.
+ *
+ *   dampmeadow_powi_products(0x40400000, 3) == 3         3 to 3: 1 by 3, 3 by 3, and the 3 by the 9
+ *   dampmeadow_powi_products(0x40400000, -3) == 3        as many to -3
+ *   dampmeadow_powi_products(0x40400000, 0) == 0         no product: it is 1
+ *   dampmeadow_powi_products(0x40400000, 128) == 0       answered early, with an infinity
+ *   dampmeadow_powi_products(0x00000000, 3) == 0         refused with 2
+ */
+uint32_t dampmeadow_powi_products(uint32_t a, int32_t n);
+
 /* Raw floor, and the mark of the cast that it makes, which is of x. It has no operation number.
  *
  * In:   a, the operand's word; any word.

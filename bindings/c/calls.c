@@ -35,6 +35,13 @@ static void parts(const char *what, uint32_t a, uint32_t refusal, uint32_t whole
     hold(what, r, rest);
 }
 
+/* The products of guarded powi, for a power and, but for its sign, the same: the one division of a negative power is none. */
+static void products(const char *what, uint32_t a, int32_t n, uint32_t due, uint32_t due_below)
+{
+    hold(what, dampmeadow_powi_products(a, n), due);
+    hold(what, dampmeadow_powi_products(a, -n), due_below);
+}
+
 /* Raw floor and ceil of a word, each with its mark, and then by number: the words have to be the same. */
 static void marks(const char *what, uint32_t a, uint32_t floor_mark, uint32_t floor_word, uint32_t ceil_mark,
                   uint32_t ceil_word)
@@ -232,6 +239,24 @@ int main(void)
     parts("the parts of the last below 2^32", 0x4f7fffff, DAMPMEADOW_ANSWERED, 0x4f7fffff, 0);
     parts("the parts of 2^32", 0x4f800000, DAMPMEADOW_OUTSIDE, 0, 0);
     parts("the parts of a NaN", nan, DAMPMEADOW_NOT_FINITE, 0, 0);
+
+    products("products of 3 to 0", 0x40400000, 0, 0, 0);
+    products("products of 3 to 1", 0x40400000, 1, 1, 1);
+    products("products of 3 to 3", 0x40400000, 3, 3, 3);
+    products("products of 3 to 4", 0x40400000, 4, 3, 3);
+    products("products of 3 to 127", 0x40400000, 127, 13, 13);
+    products("products of 3 to 128, early above alone", 0x40400000, 128, 0, 8);
+    products("products of 2 to 150, early on both sides", 0x40000000, 150, 0, 0);
+    products("products of 0.4 to 75, early on both sides", 0x3ecccccd, 75, 0, 0);
+    products("products of 0.4 to 74", 0x3ecccccd, 74, 9, 0);
+    products("products of -1.5 to 1048575", 0xbfc00000, 1048575, 39, 39);
+    products("products of 1 to 1048576", 0x3f800000, 1048576, 21, 21);
+    products("products of 1 to 1048577, which is refused", 0x3f800000, 1048577, 0, 0);
+    products("products of 0, which is refused", 0x00000000, 3, 0, 0);
+    products("products of a small number, which is refused", 0x007fffff, 1, 0, 0);
+    products("products of an infinity, which is refused", 0x7f800000, 1, 0, 0);
+    products("products of a NaN, which is refused", nan, 1, 0, 0);
+    hold("products to the least power, which is refused", dampmeadow_powi_products(0x3f800000, INT32_MIN), 0);
 
     const uint32_t exact = DAMPMEADOW_EXACT, dropped = DAMPMEADOW_DROPPED, high = DAMPMEADOW_CLIPPED_HIGH;
     const uint32_t low = DAMPMEADOW_CLIPPED_LOW, no_number = DAMPMEADOW_NOT_A_NUMBER;

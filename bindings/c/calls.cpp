@@ -38,6 +38,15 @@ void parts(const char *what, float x, uint32_t refusal, float whole, float rest)
     hold(what, {got, dampmeadow_float(r)}, {refusal, rest});
 }
 
+void products(const char *what, float x, int32_t n, uint32_t due)
+{
+    tried++;
+    const uint32_t got = dampmeadow_powi_products(dampmeadow_bits(x), n);
+    if (got == due) return;
+    wrong++;
+    std::printf("%s: %u, and %u is due\n", what, unsigned(got), unsigned(due));
+}
+
 // An answer with what stands above it, a mark or a refusal. The words are compared, since a zero's sign is part of it and a NaN
 // equals nothing.
 void exactly(const char *what, const char *above, uint32_t got, uint32_t word, uint32_t due, float number)
@@ -255,6 +264,12 @@ int main()
     hold("atan_norm 1", {0, dampmeadow_float(dampmeadow_atan_norm(0x3f800000))}, {0, 0.5f});
     parts("the parts of -2.5", -2.5f, DAMPMEADOW_ANSWERED, -2.0f, -0.5f);
     parts("the parts of 1e10", 1e10f, DAMPMEADOW_OUTSIDE, 0.0f, 0.0f);
+    products("products of 3 to 3", 3.0f, 3, 3);
+    products("products of 3 to -3", 3.0f, -3, 3);
+    products("products of 3 to 128", 3.0f, 128, 0);
+    products("products of 1 to -1048575", 1.0f, -1048575, 39);
+    products("products of 1 to 1048577", 1.0f, 1048577, 0);
+    products("products of -0 to 3", -0.0f, 3, 0);
     const float end = 2147483648.0f; // 2^31
     floors("floor -0.5, marked", -0.5f, DAMPMEADOW_DROPPED, -1.0f);
     ceils("ceil -0.5, marked", -0.5f, DAMPMEADOW_DROPPED, -0.0f);

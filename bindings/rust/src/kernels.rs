@@ -164,6 +164,7 @@ pub fn ln(x: f32) -> Result<f32, Refusal> {
 
 /// x to a whole power. Takes x that is not 0 and a power from -1048576 to 1048576. A power that is too large is an infinity. Of
 /// an x under 0.5 in size it gives up early, with 0, or with an infinity where the power is negative: 0.4 to 75 is 0 here.
+/// [`powi_products`](crate::powi_products) tells how much work it took.
 ///
 /// ```
 /// use dampmeadow::{powi, Refusal};

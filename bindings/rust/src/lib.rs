@@ -22,7 +22,7 @@
 //! The kernels are those of micromath, to the bit, but that [`sqrt`] of a zero is that zero: most are quick estimates, some of
 //! them percents off. [`raw`] gives what micromath gives for every word, NaN and infinity among them, but for five cases that
 //! docs/DIFFERENCES.md lists. [`raw_floor_marked`] and [`raw_ceil_marked`] give a [`Mark`] beside that, which says what their
-//! cast to an integer did to the number. [`call`] takes any operation by its number, [`strip`] the same over whole lists, and
+//! cast to an integer did to the number, and [`powi_products`] how many products a power took. [`call`] takes any operation by its number, [`strip`] the same over whole lists, and
 //! [`answer`] a frame, which is a line of text. A [`Grain`] is a record of samples, their running mean and spread, that is
 //! changed in place as each is offered. [`recipe`] works out a formula of kernels on a line of text, and what it gives may be a
 //! NaN. [`soft`] has a second engine, for a controller without floats: four operations and four kernels on words, with whole
@@ -76,6 +76,7 @@ mod exported {
         pub fn dampmeadow_atan_norm(a: u32) -> u32;
         pub fn dampmeadow_atan_norm_guarded(a: u32) -> u64;
         pub fn dampmeadow_parts(a: u32, whole: *mut u32, rest: *mut u32) -> u32;
+        pub fn dampmeadow_powi_products(a: u32, n: i32) -> u32;
         pub fn dampmeadow_floor_marked(a: u32) -> u64;
         pub fn dampmeadow_ceil_marked(a: u32) -> u64;
         pub fn dampmeadow_grain_offer(grain: *mut Grain, sample: u32) -> u32;
@@ -189,6 +190,26 @@ pub fn parts(x: f32) -> Result<(f32, f32), Refusal> {
     // SAFETY: the two places are this function's own and apart; the call writes a word to each, and keeps neither.
     let refusal = unsafe { exported::dampmeadow_parts(x.to_bits(), &mut whole, &mut rest) };
     judged(refusal, (f32::from_bits(whole), f32::from_bits(rest)))
+}
+
+/// How much work a power took: how many products of two floats [`powi`] formed for its answer. There is one for each binary digit
+/// of n but the first, which squares, and one for each digit that is 1, which goes into the result: 39 at most, for 1048575 and
+/// -1048575. The division that a negative power begins with is none. 0 where [`powi`] refuses, for the power 0, and where it
+/// answers early, with an infinity or 0, because x by its exponent is too large or too small for the power.
+///
+/// ```
+/// use dampmeadow::powi_products;
+/// assert_eq!(powi_products(3.0, 3), 3); // 1 by 3, 3 by 3, and the 3 by the 9
+/// assert_eq!(powi_products(3.0, -3), 3);
+/// assert_eq!(powi_products(3.0, 0), 0);
+/// assert_eq!(powi_products(3.0, 128), 0); // answered early, with an infinity
+/// assert_eq!(powi_products(0.0, 3), 0); // refused
+/// assert_eq!(powi_products(1.5, 1_048_575), 39);
+/// assert_eq!(powi_products(1.5, 1_048_576), 21);
+/// ```
+pub fn powi_products(x: f32, n: i32) -> u32 {
+    // SAFETY: as in `call`.
+    unsafe { exported::dampmeadow_powi_products(x.to_bits(), n) }
 }
 
 /// Raw floor with the mark of the cast that it makes, which is of x: any word in, the word that [`raw`] gives and the mark out,

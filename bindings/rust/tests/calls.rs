@@ -100,6 +100,43 @@ fn both_sides_of_the_gates() {
     assert_eq!(powi(3.0, -1_048_577), Err(Refusal::PowerOutside));
 }
 
+/// What the squaring loop forms for a power of this size, bit by bit.
+fn formed(mut size: u32) -> u32 {
+    let mut products = 0;
+    while size > 0 {
+        products += size % 2;
+        size /= 2;
+        products += (size > 0) as u32;
+    }
+    products
+}
+
+#[test]
+fn a_power_takes_as_many_products_as_its_bits_and_none_where_none_is_formed() {
+    let mut most = 0;
+    for n in (-1_048_576..=1_048_576).step_by(31).chain([1, 2, 3, 4, 1_048_575, 1_048_576]) {
+        for (x, y) in [(1.5, n), (-0.5, -n)] {
+            assert_eq!(powi_products(x, y), formed(y.unsigned_abs()), "{x} {y}");
+            most = most.max(powi_products(x, y));
+        }
+    }
+    assert_eq!(most, 39);
+    // by every word: none beside a refusal, and none to the power 0
+    for a in words() {
+        let x = f32::from_bits(a);
+        for n in words().map(|b| b as i32).chain([-3, 0, 1, 1_048_577, i32::MIN]) {
+            let products = powi_products(x, n);
+            assert!(products <= 39, "{a:08x} {n}");
+            match powi(x, n) {
+                Err(_) => assert_eq!(products, 0, "{a:08x} {n}"),
+                // a finite answer that is no zero was multiplied to the end
+                Ok(power) if power != 0.0 && power.is_finite() => assert_eq!(products, formed(n.unsigned_abs()), "{a:08x} {n}"),
+                Ok(_) => assert!([0, formed(n.unsigned_abs())].contains(&products), "{a:08x} {n}"),
+            }
+        }
+    }
+}
+
 #[test]
 fn the_larger_of_a_pair_is_from_two_to_minus_60_to_two_to_62() {
     let (low, first, last, past) = (0x217f_ffff, 0x2180_0000, 0x5e80_0000, 0x5e80_0001);
