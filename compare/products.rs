@@ -77,12 +77,22 @@ fn same_nan(word: u32) -> u32 {
 
 /// Tries a base and a power, guarded and raw. With the least power the crate's loop need not end: it has none to count.
 fn try_pair(count: &mut Count, gate: &Gate, a: u32, n: i32) {
-    let (word, products) = if n == i32::MIN { (0, 0) } else { counted::powi(a, n) };
     let refused = gate.refusal(a, n as u32) != 0;
-    // the copy is the crate's powi still; it forms all products or none, and no more than the specification says
-    let same = n == i32::MIN || same_nan(F32::from_bits(a).powi(n).to_bits()) == same_nan(word);
-    if !same || products != 0 && products != by_bits(n.unsigned_abs()) || !refused && products > MOST {
-        count.judge(None, products as u64, || format!("what the copy of the crate's powi counts of {a:08x} to {n}"));
+    if n == i32::MIN {
+        return judge_pair(count, a, n, 0, refused);
+    }
+    let (word, products) = counted::powi(a, n);
+    // the judge is judged: the copy is the crate's powi still, it forms all products or none, and no more than is allowed
+    let due = F32::from_bits(a).powi(n).to_bits();
+    if same_nan(word) != same_nan(due) {
+        count.judge(Some(due as u64), word as u64, || format!("the counted copy of the crate's powi of {a:08x} to {n}"));
+    }
+    let all = by_bits(n.unsigned_abs());
+    if products != 0 && products != all {
+        count.judge(Some(all as u64), products as u64, || format!("the count by the crate's loop of {a:08x} to {n}"));
+    }
+    if !refused && products > MOST {
+        count.judge(Some(MOST as u64), products as u64, || format!("the most by the crate's loop of {a:08x} to {n}"));
     }
     judge_pair(count, a, n, products, refused);
 }

@@ -230,10 +230,11 @@ uint32_t dampmeadow_parts(uint32_t a, uint32_t *whole, uint32_t *rest);
 /* How much work a power took: how many products of two floats guarded powi formed for its answer.
  *
  * In:   a, the word of x; n, the power, a number with a sign, and no word as b of dampmeadow_words is.
- * Back: the products. There is one for each binary digit of n but the first, which squares, and one for each digit that is 1,
- *       which goes into the result: 39 at most, for 1048575 and -1048575. The division that a negative power begins with is
- *       none. 0 where dampmeadow_words refuses the call, for the power 0, and where powi answers early, with an infinity or 0,
- *       because x by its exponent is too large or too small for the power. Every word and every power may be asked for.
+ * Back: the products. For each binary digit of n's size but the first there is one that squares, and for each digit that is 1
+ *       one that goes into the result: 39 at most, for 1048575 and -1048575. The division that a negative power begins with is
+ *       no product. 0 where dampmeadow_words refuses the call, for the power 0, and where powi answers early, with an infinity
+ *       or 0, because x, not from 0.5 to below 2 in size, is by its exponent too large or too small for the power. Every word
+ *       and every power may be asked for.
  *
  *   dampmeadow_powi_products(0x40400000, 3) == 3         3 to 3: 1 by 3, 3 by 3, and the 3 by the 9
  *   dampmeadow_powi_products(0x40400000, -3) == 3        as many to -3

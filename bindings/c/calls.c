@@ -35,7 +35,7 @@ static void parts(const char *what, uint32_t a, uint32_t refusal, uint32_t whole
     hold(what, r, rest);
 }
 
-/* The products of guarded powi, for a power and, but for its sign, the same: the one division of a negative power is none. */
+/* The products of guarded powi, to a power and then to the same below 0. */
 static void products(const char *what, uint32_t a, int32_t n, uint32_t due, uint32_t due_below)
 {
     hold(what, dampmeadow_powi_products(a, n), due);

@@ -22,11 +22,12 @@
 //! The kernels are those of micromath, to the bit, but that [`sqrt`] of a zero is that zero: most are quick estimates, some of
 //! them percents off. [`raw`] gives what micromath gives for every word, NaN and infinity among them, but for five cases that
 //! docs/DIFFERENCES.md lists. [`raw_floor_marked`] and [`raw_ceil_marked`] give a [`Mark`] beside that, which says what their
-//! cast to an integer did to the number, and [`powi_products`] how many products a power took. [`call`] takes any operation by its number, [`strip`] the same over whole lists, and
-//! [`answer`] a frame, which is a line of text. A [`Grain`] is a record of samples, their running mean and spread, that is
-//! changed in place as each is offered. [`recipe`] works out a formula of kernels on a line of text, and what it gives may be a
-//! NaN. [`soft`] has a second engine, for a controller without floats: four operations and four kernels on words, with whole
-//! numbers alone. The library itself keeps nothing between calls, so they may be made from any thread.
+//! cast to an integer did to the number. [`powi_products`] counts the products of a power. [`call`] takes any operation by its
+//! number, [`strip`] the same over whole lists, and [`answer`] a frame, which is a line of text. A [`Grain`] is a record of
+//! samples, their running mean and spread, that is changed in place as each is offered. [`recipe`] works out a formula of
+//! kernels on a line of text, and what it gives may be a NaN. [`soft`] has a second engine, for a controller without floats:
+//! four operations and four kernels on words, with whole numbers alone. The library itself keeps nothing between calls, so they
+//! may be made from any thread.
 //!
 //! The build script finds the library, or proves and builds it, which takes a minute or two the first time; where it cannot, it
 //! says what is missing. The library asks for one function from outside, `fmodf`: it is Rust's own where Rust brings one, and
@@ -192,10 +193,11 @@ pub fn parts(x: f32) -> Result<(f32, f32), Refusal> {
     judged(refusal, (f32::from_bits(whole), f32::from_bits(rest)))
 }
 
-/// How much work a power took: how many products of two floats [`powi`] formed for its answer. There is one for each binary digit
-/// of n but the first, which squares, and one for each digit that is 1, which goes into the result: 39 at most, for 1048575 and
-/// -1048575. The division that a negative power begins with is none. 0 where [`powi`] refuses, for the power 0, and where it
-/// answers early, with an infinity or 0, because x by its exponent is too large or too small for the power.
+/// How much work a power took: how many products of two floats [`powi`] formed for its answer. For each binary digit of the size
+/// of n but the first there is one that squares, and for each digit that is 1 one that goes into the result: 39 at most, for
+/// 1048575 and -1048575. The division that a negative power begins with is no product. 0 where [`powi`] refuses, for the power 0,
+/// and where it answers early, with an infinity or 0, because x, not from 0.5 to below 2 in size, is by its exponent too large or
+/// too small for the power.
 ///
 /// ```
 /// use dampmeadow::powi_products;

@@ -121,7 +121,7 @@ fn a_power_takes_as_many_products_as_its_bits_and_none_where_none_is_formed() {
         }
     }
     assert_eq!(most, 39);
-    // by every word: none beside a refusal, and none to the power 0
+    // of words of every kind: none beside a refusal, and none to the power 0
     for a in words() {
         let x = f32::from_bits(a);
         for n in words().map(|b| b as i32).chain([-3, 0, 1, 1_048_577, i32::MIN]) {

@@ -193,6 +193,8 @@ rows =
     ∷ productsOf 0x0000_0001 (pos 1) gives 1
     ∷ productsOf 0x8000_0000 (negsuc 0) gives 1
     ∷ productsOf 0x8000_0000 (negsuc 1) gives 0
+    ∷ productsOf 0x0000_0000 (negsuc 33818639) gives 0
+    ∷ productsOf 0x0000_0001 (negsuc 33818639) gives 29
     -- both sides of 0.5 and of 2, then of 127 and of -149
     ∷ productsOf 0x3eff_ffff (pos 75) gives 0
     ∷ productsOf 0x3f00_0000 (pos 75) gives 10

@@ -106,7 +106,7 @@ module _ (w : ℕ) (n : ℤ) where
   unfolding productsOf
   early-takes-none v e = rw e
 
-  -- any other is the end of a list of products, and takes as many as there are in it
+  -- every other is the end of a list of products, and takes as many as there are in it
   pub squaring-takes-all : early w n ≡ none → (productsOf w n ≡ length (powiWorks w n)) × (powiWord w n ≡ squaringWord w n)
   unfolding productsOf powiWord
   squaring-takes-all e = (rw e, rw e)
@@ -128,3 +128,7 @@ squaring-takes-one w n e = rw (squaring-takes-all w n e .0) (one-at-least w n (n
     not-power-0 w (pos zero) e = absurd (Option·some-ne-none _ e)
     not-power-0 w (pos (suc n)) e = omega arith
     not-power-0 w (negsuc n) e = omega arith
+
+-- the power 0 is answered early
+pub power-0-takes-none : (w : ℕ) → productsOf w (pos 0) ≡ 0
+power-0-takes-none w = early-takes-none w (pos 0) 0x3f80_0000 refl

@@ -31,14 +31,14 @@ impl Counted {
 }
 
 impl F32 {
+    // Where the power is the least integer, whose magnitude is no integer, the answer is a NaN.
     pub fn powi(self, n: i32) -> F32
         ensures { λ r. ⌜ r .0 ≡ powiWord (self .0) n ⌝ }
     {
         self.powi_counted(n).number
     }
 
-    // With how many products it took. Where the power is the least integer, whose magnitude is no
-    // integer, the answer is a NaN.
+    // The same, and how many products it took.
     pub fn powi_counted(self, n: i32) -> Counted
         ensures number { λ r. ⌜ r .number .0 ≡ powiWord (self .0) n ⌝ }
         ensures products { λ r. ⌜ r .products ≡ productsOf (self .0) n ⌝ }
@@ -156,7 +156,8 @@ fn magnitude(n: i32) -> u32
     0xffff_ffff - word + 1
 }
 
-// What is held between two products, and how many were formed before.
+// What is held between two products, and how many were formed before: for a magnitude of 32 bits 63
+// at most, so that one more can be counted.
 struct Held {
     base: f32,
     result: f32,

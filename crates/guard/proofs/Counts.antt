@@ -3,24 +3,24 @@
 use Prim.Native.Nat.{ℕ, _^_, _≤_}
 use native.Mathlib.Omega.{arith}
 use mathlib.Core.Path.{_≡_, refl, sym, ap, subst, _∙_}
-use mathlib.Core.Bool.{Bool, true, false, cond, _&&_}
+use mathlib.Core.Bool.{Bool, true, false, cond}
 use mathlib.Core.List.{List, [], _∷_, map}
 use mathlib.Core.Option.{none, some}
 use borrow.Author.Tests.{ne-eqb, eqb-true, ltb-false}
-use lib.Dec.{eqb, ltb}
+use lib.Dec.{eqb}
 use lib.IntN.{natAbs}
 use lib.Ieee.{add, sub, mul, div, lt, le, eq, nanBits, ofBits, toBits, ofInt, toSigned}
 use mir.Syntax.{w32}
 use mir.Val.{toZ}
 use Rattle.float.specs.Ln.{polynomial, logarithm, lnWord}
 use Rattle.float.specs.Powi.{works, early, productsOf}
-use Rattle.float.proofs.Products.{early-takes-none, squaring-takes-one, takes-at-most-39}
+use Rattle.float.proofs.Products.{early-takes-none, squaring-takes-one, takes-at-most-39, power-0-takes-none}
 use Rattle.raw.specs.Raw.{kernelOf, operandsOf}
 use Rattle.guard.specs.declared.Answer.{Answer}
 use Rattle.guard.specs.Operations.{opLn, opPowi, opPowf}
 use Rattle.guard.specs.Gates.{judged}
 use Rattle.guard.specs.Refusals.{refusalBehind, refusalOf}
-use Rattle.guard.specs.Guarded.{Answered, GivesAfter, productsAt, productsGiven, Guards, refusalByNumber, GuardsByNumber}
+use Rattle.guard.specs.Guarded.{Answered, GivesAfter, Gives, productsAt, productsGiven, Guards, refusalByNumber, GuardsByNumber}
 use Rattle.guard.proofs.Gives.{none-answered, answered-count}
 use Rattle.guard.proofs.Open.{opened}
 
@@ -39,13 +39,17 @@ module _ {p : ℕ} (n w : ℕ) (r : Answer) (g : GivesAfter p n w r) where
       go true e = h (eqb-true n 0 e)
       go false e = omega arith
 
-  -- nor does one that forms none
+  -- a call that forms none counts none
   none-formed : p ≡ 0 → r .products ≡ 0
   none-formed e = g .count ∙ ap (cond (eqb n 0) p) (sym e) ∙ same (eqb n 0) ∙ e
     where
       same : (t : Bool) → cond t p p ≡ p
       same true = refl
       same false = refl
+
+-- so does each call that is stated with no product, as atan_norm is
+pub gives-counts-none : (n w : ℕ) (r : Answer) → Gives n w r → r .products ≡ 0
+gives-counts-none n w r g = none-formed n w r g refl
 
 -- ---- every operation
 
@@ -89,7 +93,7 @@ module _ (op a b : ℕ) where
 -- ---- powi: none exactly where none is formed
 
 module _ (a b : ℕ) (r : Answer) (g : Guards opPowi a b r) where
-  -- an early answer counts none, that to the power 0 among them
+  -- an early answer counts none
   pub early-counts-none : (v : ℕ) → early a (toZ w32 b) ≡ some v → r .products ≡ 0
   early-counts-none v e = none-formed _ _ r g (early-takes-none a (toZ w32 b) v e)
 
@@ -97,18 +101,22 @@ module _ (a b : ℕ) (r : Answer) (g : Guards opPowi a b r) where
   pub squaring-counts-one : Answered r → early a (toZ w32 b) ≡ none → 1 ≤ r .products
   squaring-counts-one h e = rw (answered-count g h) (squaring-takes-one a (toZ w32 b) e)
 
+-- that to the power 0 among them
+pub power-0-counts-none : (a : ℕ) (r : Answer) → Guards opPowi a 0 r → r .products ≡ 0
+power-0-counts-none a r g = none-formed _ _ r g (power-0-takes-none a)
+
 -- ---- known counts: both sides of each test, and each refusal of powi
 
-record Case : Type 0 where
-  op : ℕ
-  first : ℕ
-  second : ℕ
-  products : ℕ
+pub record Case : Type 0 where
+  pub op : ℕ
+  pub first : ℕ
+  pub second : ℕ
+  pub products : ℕ
 
 abbrev at : ℕ → ℕ → ℕ → ℕ → Case
 at op a b p = record { op = op; first = a; second = b; products = p }
 
-abbrev cases : List Case
+abbrev pub cases : List Case
 cases =
     at opPowi 0x3f80_0000 0x0000_0000 0
     ∷ at opPowi 0x3f80_0000 0x0000_0001 1
@@ -127,16 +135,16 @@ cases =
     ∷ at opPowi 0x3f80_0000 0xfff0_0000 21
     ∷ at opPowi 0x3f80_0000 0xffef_ffff 0
     ∷ at opPowi 0x3f80_0000 0x8000_0000 0
-    -- refused for the base: of these the raw form forms one
+    -- refused for the base, where the raw form forms one; and the least base that is taken
     ∷ at opPowi 0x0000_0000 0xffff_ffff 0
-    ∷ at opPowi 0x007f_ffff 0x0000_0001 0
     ∷ at opPowi 0x7f80_0000 0xffff_ffff 0
+    ∷ at opPowi 0x007f_ffff 0x0000_0001 0
     ∷ at opPowi 0x0080_0000 0x0000_0001 1
     -- the numbers beside powi's
     ∷ at opPowf 0x3f80_0000 0x3f80_0000 0
     ∷ at opLn 0x3f80_0000 0x0000_0001 0
     ∷ []
 
-pub counted : map (λ c. productsGiven (c .op) (c .first) (c .second)) cases ≡ map (λ c. c .products) cases
+pub known-counts : map (λ c. productsGiven (c .op) (c .first) (c .second)) cases ≡ map (λ c. c .products) cases
 unfolding refusalBehind judged polynomial logarithm lnWord works productsOf add sub mul div lt le eq nanBits ofBits toBits ofInt toSigned
-counted = refl
+known-counts = refl

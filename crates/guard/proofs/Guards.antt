@@ -24,11 +24,11 @@ kept n w m v r f p q h = let g = f (λ z. rw q (h (sym p ∙ z))) in rw (p, q) a
 pub own-gate : (op a b n : ℕ) (g : Gate) → n ≡ refusalBehind g op a b → g ≡ gateOf op → n ≡ refusalOf op a b
 own-gate op a b n g p e = p ∙ rw e
 
--- The facts of a named call in turn: its row, its refusal, its kernel's word, its answer. At the number of an operation other than powi this
--- is what the operation guards, which forms no product.
+-- the facts of a named call in turn: its row, its refusal, its kernel's word, its answer
 module _ (op a b n w : ℕ) (g : Gate) (r : Answer) (h : a < 2 ^ 32) (k : b < 2 ^ 32) (e : g ≡ gateOf op) (p : n ≡ refusalBehind g op a b) (q : w ≡ valueOf op a b) where
   pub guards-after : (c : ℕ) → PromiseAfter c n w r → GivesAfter c (refusalOf op a b) (valueOf op a b) r
   guards-after c f = kept n w (refusalOf op a b) (valueOf op a b) r f (own-gate op a b n g p e) q (no-nan op a b h k)
 
+  -- with no product: at the number of any operation but powi this is what the operation guards
   pub guards : Promise n w r → Gives (refusalOf op a b) (valueOf op a b) r
   guards f = guards-after 0 f

@@ -224,8 +224,8 @@ pub fn ln(x: F32) -> Answer
     )
 }
 
-// With the products that it took: none for the power 0 or where it gives up early, else one at least
-// and 39 at most.
+// With the products that it took: none beside a refusal, for the power 0 or where it gives up early,
+// else one at least and 39 at most.
 pub fn powi(x: F32, n: i32) -> Answer
     ensures { λ r. ⌜ Guards opPowi (x .0) (ofZ w32 n) r ⌝ }
 {
@@ -427,15 +427,18 @@ fn answered(refusal: u32, word: F32) -> Answer
     counted(refusal, word, 0)
 }
 
-// The same for a number that took some products.
+// The same for a number that took some products, which a refusal leaves out.
 fn counted(refusal: u32, word: F32, products: u32) -> Answer
     ensures { λ r. ⌜ ((refusal ≡ 0 → nanBits binary32 (word .0) ≡ false) → GivesAfter products refusal (word .0) r) ⌝ }
 {
-    if refusal == 0 {
+    if refusal != 0 {
         return Answer {
-            result: Guarded::Number(word.value()),
-            products: products,
+            result: Guarded::Refused(refusal),
+            products: 0,
         };
     }
-    refused(refusal)
+    Answer {
+        result: Guarded::Number(word.value()),
+        products: products,
+    }
 }

@@ -1,6 +1,6 @@
 -- `float::powi::multiplied` meets its contract: it is a chain of calls. Assumes nothing.
 use borrow.Author.Needs.{needs}
-use mathlib.Core.Path.{_≡_, ap, _∙_}
+use mathlib.Core.Path.{ap, _∙_}
 use lib.IntN.{ℤ, natAbs}
 use lib.Ieee.{binary32, toBits}
 use mir.Facts.{toZ-ofZ}
@@ -10,8 +10,7 @@ use Rattle.float.proofs.powi.multiplied.Tie as tie
 
 pub multiplied-spec : {M : Type 1} → statement M
 multiplied-spec =
-    tie.close
-    (tie.spec
+    let met = tie.spec
     (λ c κs. search needs)
     (λ c κs. search needs)
     (λ c κs. search needs)
@@ -22,4 +21,5 @@ multiplied-spec =
     let from-is = ap from (c .before .before .before .base .ensures ∙ ap (λ (n : ℤ). start (first .args .x .0) n .base) n-is) in
     let m-is = c .before .before .magnitude .ensures ∙ ap natAbs n-is in
     let held = rw (from-is, m-is) at (c .before .raised .ensures) in
-    (c .of .ensures ∙ ap (λ (s : Work). toBits binary32 (s .result)) (held .0), held .1)))
+    (c .of .ensures ∙ ap (λ (s : Work). toBits binary32 (s .result)) (held .0), held .1)) in
+    tie.close met

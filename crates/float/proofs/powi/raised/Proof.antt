@@ -1,11 +1,10 @@
 -- `float::powi::raised` meets its contract. The loop's invariant: the magnitude that is left, from what is held, ends where the whole
 -- ends, and what is counted with what is left to form is what the whole forms. The measure is that magnitude. Assumes nothing.
-use borrow.Author.Needs.{needs}
 use Prim.Native.Nat.{ℕ, suc, _+_, _/_, _^_, _<_, _≤_}
 use native.Mathlib.Nat.{zero-add}
 use native.Mathlib.Omega.{arith}
 use mathlib.Core.Path.{_≡_, refl, sym, ap, _∙_}
-use mathlib.Core.List.{List, _∷_}
+use mathlib.Core.List.{List}
 use lib.ListN.{length, length-append}
 use Rattle.float.specs.Powi.{Work, squared, ended, taken, works, from, workOf}
 use Rattle.float.proofs.Products.{products-at-most}
@@ -51,8 +50,7 @@ module _ (m : ℕ) (s : Work) (p w : ℕ) (t : Work) (l : Left m s p w t) where
 
 pub raised-spec : {M : Type 1} → statement M
 raised-spec =
-    tie.close
-    (tie.spec
+    let met = tie.spec
     Inv-loop
     μ-loop
     (λ c. record { fits = c .fits .magnitude .fits; end = refl; count = zero-add _; most = products-at-most 32 32 _ _ (c .fits .magnitude .fits) })
@@ -66,4 +64,5 @@ raised-spec =
     (λ c.
     let bit = c .taken2 .ensures in
     let whole = last _ _ _ _ _ (c .before .before .loop .inv) (c .before .loop-test .left) in
-    (bit .0 ∙ whole .0, bit .1 ∙ whole .1)))
+    (bit .0 ∙ whole .0, bit .1 ∙ whole .1)) in
+    tie.close met
