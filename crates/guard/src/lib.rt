@@ -229,17 +229,14 @@ pub fn ln(x: F32) -> Answer
 pub fn powi(x: F32, n: i32) -> Answer
     ensures { λ r. ⌜ Guards opPowi (x .0) (ofZ w32 n) r ⌝ }
 {
+    let refusal = refusal::first(
+        gate::of(number::POWI),
+        number::POWI,
+        x,
+        cast::bits_of_i32(n),
+    );
     let power = x.powi_counted(n);
-    counted(
-        refusal::first(
-            gate::of(number::POWI),
-            number::POWI,
-            x,
-            cast::bits_of_i32(n),
-        ),
-        power.number,
-        power.products,
-    )
+    counted(refusal, power.number, power.products)
 }
 
 pub fn powf(x: F32, n: F32) -> Answer

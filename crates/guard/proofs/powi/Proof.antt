@@ -10,8 +10,8 @@ use Rattle.guard.proofs.Guards.{guards-after}
 use Rattle.guard.proofs.powi.Statement.{statement}
 use Rattle.guard.proofs.powi.Tie as tie
 
-word-is : (c : tie.After-bits-of-i32) → c .bits-of-i32 .result ≡ ofZ w32 (c .before .before .before .args .n)
-word-is c = c .bits-of-i32 .ensures ∙ ap (ofZ w32) (toZ-ofZ (c .before .before .before .fits .n))
+word-is : (c : tie.After-bits-of-i32) → c .bits-of-i32 .result ≡ ofZ w32 (c .before .before .args .n)
+word-is c = c .bits-of-i32 .ensures ∙ ap (ofZ w32) (toZ-ofZ (c .before .before .fits .n))
 
 pub powi-spec : {M : Type 1} → statement M
 powi-spec =
@@ -22,10 +22,10 @@ powi-spec =
     (λ c κs. search needs)
     (λ c κs. search needs)
     (λ c.
-    let bits = c .before .before in
-    let counted = bits .before .before .powi-counted .ensures in
-    let args = bits .before .before .before .args in
+    let bits = c .before .before .before in
+    let counted = c .before .powi-counted .ensures in
+    let args = bits .before .before .args in
     let power = word-is bits in
     guards-after opPowi (args .x .0) (ofZ w32 (args .n)) _ _ _ _ (search needs) (subst (λ (w : ℕ). w < 2 ^ 32) power (search needs))
-    (bits .before .of .ensures) (c .before .first .ensures ∙ rw power) (counted .0) _ (rw (counted .1) at (c .counted .ensures))) in
+    (bits .before .of .ensures) (c .before .before .first .ensures ∙ rw power) (counted .0) _ (rw (counted .1) at (c .counted .ensures))) in
     tie.close met
