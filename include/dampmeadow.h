@@ -229,7 +229,7 @@ uint32_t dampmeadow_parts(uint32_t a, uint32_t *whole, uint32_t *rest);
 
 /* How much work a power took: how many products of two floats guarded powi formed for its answer.
  *
- * In:   a, the word of x; n, the power, a number with a sign, and no word as b of dampmeadow_words is.
+ * In:   a, the word of x; n, the power, here as a signed number: -3 for -3.
  * Back: the products. For each binary digit of n's size but the first there is one that squares, and for each digit that is 1
  *       one that goes into the result: 39 at most, for 1048575 and -1048575. The division that a negative power begins with is
  *       no product. 0 where dampmeadow_words refuses the call, for the power 0, and where powi answers early, with an infinity

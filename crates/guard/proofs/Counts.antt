@@ -47,7 +47,7 @@ module _ {p : ℕ} (n w : ℕ) (r : Answer) (g : GivesAfter p n w r) where
       same true = refl
       same false = refl
 
--- so does each call that is stated with no product, as atan_norm is
+-- so each call that is stated with no product, as atan_norm is
 pub gives-counts-none : (n w : ℕ) (r : Answer) → Gives n w r → r .products ≡ 0
 gives-counts-none n w r g = none-formed n w r g refl
 
@@ -101,7 +101,7 @@ module _ (a b : ℕ) (r : Answer) (g : Guards opPowi a b r) where
   pub squaring-counts-one : Answered r → early a (toZ w32 b) ≡ none → 1 ≤ r .products
   squaring-counts-one h e = rw (answered-count g h) (squaring-takes-one a (toZ w32 b) e)
 
--- that to the power 0 among them
+-- to the power 0 it counts none, which is answered early
 pub power-0-counts-none : (a : ℕ) (r : Answer) → Guards opPowi a 0 r → r .products ≡ 0
 power-0-counts-none a r g = none-formed _ _ r g (power-0-takes-none a)
 
