@@ -101,10 +101,10 @@ counts w = refl
 -- ---- those of its answer
 
 module _ (w : ℕ) (n : ℤ) where
-  -- an early answer takes none
-  pub early-takes-none : (v : ℕ) → early w n ≡ some v → productsOf w n ≡ 0
-  unfolding productsOf
-  early-takes-none v e = rw e
+  -- an early answer takes none, and is what it is given as
+  pub early-takes-none : (v : ℕ) → early w n ≡ some v → (productsOf w n ≡ 0) × (powiWord w n ≡ v)
+  unfolding productsOf powiWord
+  early-takes-none v e = (rw e, rw e)
 
   -- every other is the end of a list of products, and takes as many as there are in it
   pub squaring-takes-all : early w n ≡ none → (productsOf w n ≡ length (powiWorks w n)) × (powiWord w n ≡ squaringWord w n)
@@ -131,4 +131,4 @@ squaring-takes-one w n e = rw (squaring-takes-all w n e .0) (one-at-least w n (n
 
 -- the power 0 is answered early
 pub power-0-takes-none : (w : ℕ) → productsOf w (pos 0) ≡ 0
-power-0-takes-none w = early-takes-none w (pos 0) 0x3f80_0000 refl
+power-0-takes-none w = early-takes-none w (pos 0) 0x3f80_0000 refl .0

@@ -3,7 +3,7 @@ use Prim.Native.Nat.{ℕ, zero, suc, _^_, _<_}
 use mathlib.Core.Path.{_≡_, refl, sym, ap, subst, _∙_}
 use mathlib.Core.Bool.{false}
 use borrow.Author.Tests.{ne-eqb}
-use lib.Ieee.{Float, binary32, ofBits, toBits, nanBits}
+use lib.Ieee.{binary32, ofBits, toBits, nanBits}
 use Rattle.format.specs.Parts.{truncWord, fractWord}
 use Rattle.format.specs.Meaning.{Under32, IsTrunc, IsFract}
 use Rattle.format.proofs.PartsMeaning.{trunc-under32, fract-under32}
@@ -14,7 +14,7 @@ use Rattle.guard.specs.Operations.{opTrunc}
 use Rattle.guard.specs.Gates.{judged}
 use Rattle.guard.specs.Refusals.{refusalOf}
 use Rattle.guard.specs.Guarded.{wordOf, secondOf, Answered, refusedWith, given, GivesParts}
-use Rattle.guard.proofs.Gives.{kept-word}
+use Rattle.guard.proofs.Gives.{kept-word, none-of}
 use Rattle.guard.proofs.Open.{opened}
 use Rattle.guard.proofs.NoNan.{under32}
 
@@ -49,12 +49,8 @@ module _ (w : ℕ) (w-lt : w < 2 ^ 32) (none : refusalOf opTrunc w 0 ≡ 0) wher
 -- ---- as of every guarded call: the words of a refusal are zero, and an answered part is no NaN
 
 module _ (w : ℕ) (r : Answer) (g : GivesParts w r) where
-  given-none : (n : ℕ) (x y : Float) → Answered (given n (Parts x y)) → n ≡ 0
-  given-none zero x y h = refl
-  given-none (suc n) x y h = absurd h
-
   no-refusal : Answered r → refusalOf opTrunc w 0 ≡ 0
-  no-refusal h = given-none (refusalOf opTrunc w 0) (ofBits binary32 (truncWord binary32 w)) (ofBits binary32 (fractWord binary32 w)) (subst Answered (g .answer) h)
+  no-refusal h = none-of 0 (refusalOf opTrunc w 0) (Parts (ofBits binary32 (truncWord binary32 w)) (ofBits binary32 (fractWord binary32 w))) (subst Answered (g .answer) h)
 
   answered-parts : refusalOf opTrunc w 0 ≡ 0 → Answered r
   answered-parts e = subst Answered (sym (g .answer ∙ ap (λ (n : ℕ). given n (Parts (ofBits binary32 (truncWord binary32 w)) (ofBits binary32 (fractWord binary32 w)))) e)) tt

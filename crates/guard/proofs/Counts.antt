@@ -4,7 +4,7 @@ use Prim.Native.Nat.{ℕ, _^_, _≤_}
 use native.Mathlib.Omega.{arith}
 use mathlib.Core.Path.{_≡_, refl, sym, ap, subst, _∙_}
 use mathlib.Core.Bool.{Bool, true, false, cond}
-use mathlib.Core.List.{List, [], _∷_, map}
+use mathlib.Core.List.{List, [], _∷_}
 use mathlib.Core.Option.{none, some}
 use borrow.Author.Tests.{ne-eqb, eqb-true, ltb-false}
 use lib.Dec.{eqb}
@@ -15,6 +15,7 @@ use mir.Val.{toZ}
 use Rattle.float.specs.Ln.{polynomial, logarithm, lnWord}
 use Rattle.float.specs.Powi.{works, early, productsOf}
 use Rattle.float.proofs.Products.{early-takes-none, squaring-takes-one, takes-at-most-39, power-0-takes-none}
+use Rattle.float.proofs.Rows.{Row, _gives_, agree}
 use Rattle.raw.specs.Raw.{kernelOf, operandsOf}
 use Rattle.guard.specs.declared.Answer.{Answer}
 use Rattle.guard.specs.Operations.{opLn, opPowi, opPowf}
@@ -95,7 +96,7 @@ module _ (op a b : ℕ) where
 module _ (a b : ℕ) (r : Answer) (g : Guards opPowi a b r) where
   -- an early answer counts none
   pub early-counts-none : (v : ℕ) → early a (toZ w32 b) ≡ some v → r .products ≡ 0
-  early-counts-none v e = none-formed _ _ r g (early-takes-none a (toZ w32 b) v e)
+  early-counts-none v e = none-formed _ _ r g (early-takes-none a (toZ w32 b) v e .0)
 
   -- every other answer counts one at least
   pub squaring-counts-one : Answered r → early a (toZ w32 b) ≡ none → 1 ≤ r .products
@@ -107,44 +108,35 @@ power-0-counts-none a r g = none-formed _ _ r g (power-0-takes-none a)
 
 -- ---- known counts: both sides of each test, and each refusal of powi
 
-pub record Case : Type 0 where
-  pub op : ℕ
-  pub first : ℕ
-  pub second : ℕ
-  pub products : ℕ
-
-abbrev at : ℕ → ℕ → ℕ → ℕ → Case
-at op a b p = record { op = op; first = a; second = b; products = p }
-
-abbrev pub cases : List Case
-cases =
-    at opPowi 0x3f80_0000 0x0000_0000 0
-    ∷ at opPowi 0x3f80_0000 0x0000_0001 1
-    ∷ at opPowi 0x3f80_0000 0xffff_ffff 1
-    ∷ at opPowi 0xc040_0000 0x0000_0003 3
+abbrev pub rows : List Row
+rows =
+    productsGiven opPowi 0x3f80_0000 0x0000_0000 gives 0
+    ∷ productsGiven opPowi 0x3f80_0000 0x0000_0001 gives 1
+    ∷ productsGiven opPowi 0x3f80_0000 0xffff_ffff gives 1
+    ∷ productsGiven opPowi 0xc040_0000 0x0000_0003 gives 3
     -- given up early, and not yet
-    ∷ at opPowi 0x4000_0000 0x0000_0080 0
-    ∷ at opPowi 0x4000_0000 0x0000_007f 13
-    ∷ at opPowi 0x4000_0000 0xffff_ff6a 0
-    ∷ at opPowi 0x4000_0000 0xffff_ff6b 11
+    ∷ productsGiven opPowi 0x4000_0000 0x0000_0080 gives 0
+    ∷ productsGiven opPowi 0x4000_0000 0x0000_007f gives 13
+    ∷ productsGiven opPowi 0x4000_0000 0xffff_ff6a gives 0
+    ∷ productsGiven opPowi 0x4000_0000 0xffff_ff6b gives 11
     -- the most, and both ends of the power
-    ∷ at opPowi 0x3fff_ffff 0x000f_ffff 39
-    ∷ at opPowi 0xbf00_0000 0xfff0_0001 39
-    ∷ at opPowi 0x3f80_0000 0x0010_0000 21
-    ∷ at opPowi 0x3f80_0000 0x0010_0001 0
-    ∷ at opPowi 0x3f80_0000 0xfff0_0000 21
-    ∷ at opPowi 0x3f80_0000 0xffef_ffff 0
-    ∷ at opPowi 0x3f80_0000 0x8000_0000 0
+    ∷ productsGiven opPowi 0x3fff_ffff 0x000f_ffff gives 39
+    ∷ productsGiven opPowi 0xbf00_0000 0xfff0_0001 gives 39
+    ∷ productsGiven opPowi 0x3f80_0000 0x0010_0000 gives 21
+    ∷ productsGiven opPowi 0x3f80_0000 0x0010_0001 gives 0
+    ∷ productsGiven opPowi 0x3f80_0000 0xfff0_0000 gives 21
+    ∷ productsGiven opPowi 0x3f80_0000 0xffef_ffff gives 0
+    ∷ productsGiven opPowi 0x3f80_0000 0x8000_0000 gives 0
     -- refused for the base, where the raw form forms one; and the least base that is taken
-    ∷ at opPowi 0x0000_0000 0xffff_ffff 0
-    ∷ at opPowi 0x7f80_0000 0xffff_ffff 0
-    ∷ at opPowi 0x007f_ffff 0x0000_0001 0
-    ∷ at opPowi 0x0080_0000 0x0000_0001 1
+    ∷ productsGiven opPowi 0x0000_0000 0xffff_ffff gives 0
+    ∷ productsGiven opPowi 0x7f80_0000 0xffff_ffff gives 0
+    ∷ productsGiven opPowi 0x007f_ffff 0x0000_0001 gives 0
+    ∷ productsGiven opPowi 0x0080_0000 0x0000_0001 gives 1
     -- the numbers beside powi's
-    ∷ at opPowf 0x3f80_0000 0x3f80_0000 0
-    ∷ at opLn 0x3f80_0000 0x0000_0001 0
+    ∷ productsGiven opPowf 0x3f80_0000 0x3f80_0000 gives 0
+    ∷ productsGiven opLn 0x3f80_0000 0x0000_0001 gives 0
     ∷ []
 
-pub known-counts : map (λ c. productsGiven (c .op) (c .first) (c .second)) cases ≡ map (λ c. c .products) cases
+pub known-counts : agree rows ≡ true
 unfolding refusalBehind judged polynomial logarithm lnWord works productsOf add sub mul div lt le eq nanBits ofBits toBits ofInt toSigned
 known-counts = refl

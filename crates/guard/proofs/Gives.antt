@@ -26,7 +26,7 @@ numbered n w h e k = rw e (record { answer = refl; refusal = refl; word = kept-w
 
 -- ---- an answer is given exactly where there is no refusal
 
-none-of : (p n : ℕ) (g : Guarded) → Answered (givenAfter p n g) → n ≡ 0
+pub none-of : (p n : ℕ) (g : Guarded) → Answered (givenAfter p n g) → n ≡ 0
 none-of p zero g h = refl
 none-of p (suc n) g h = absurd h
 

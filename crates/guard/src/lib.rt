@@ -428,14 +428,11 @@ fn answered(refusal: u32, word: F32) -> Answer
 fn counted(refusal: u32, word: F32, products: u32) -> Answer
     ensures { λ r. ⌜ ((refusal ≡ 0 → nanBits binary32 (word .0) ≡ false) → GivesAfter products refusal (word .0) r) ⌝ }
 {
-    if refusal != 0 {
+    if refusal == 0 {
         return Answer {
-            result: Guarded::Refused(refusal),
-            products: 0,
+            result: Guarded::Number(word.value()),
+            products: products,
         };
     }
-    Answer {
-        result: Guarded::Number(word.value()),
-        products: products,
-    }
+    refused(refusal)
 }

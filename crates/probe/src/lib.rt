@@ -1,11 +1,10 @@
 // Exported calls for the comparison alone: the casts and helpers of `float`, which the crate keeps
 // to itself and no frame reaches, and raw powi's count. No crate stands on it.
 ghost use mathlib.Core.Path.{_≡_};
-ghost use mathlib.Core.Bool.{Bool, cond};
 ghost use Prim.Native.Nat.{_+_, _*_, _%_, _^_};
 ghost use lib.IntN.{pos};
 ghost use lib.Ieee.{binary32, ofBits, toBits, ofInt, toSigned};
-ghost use mir.Val.{ofZ, toZ};
+ghost use mir.Val.{ofZ};
 ghost use mir.Syntax.{w32};
 ghost use Rattle.format.specs.Fields.{exponent, magnitude};
 ghost use Rattle.format.specs.Exponent.{exponentValue, setExponentWord, isIntegerWord, isEvenWord};

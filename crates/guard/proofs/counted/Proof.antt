@@ -8,6 +8,7 @@ pub counted-spec : {M : Type 1} → statement M
 counted-spec =
     tie.close
     (tie.spec
-    (λ c h. refused _ _ (c .if1 .taken))
     (λ c κs. search needs)
-    (λ c h. rw (c .value .ensures) (numbered _ _ (search needs) (c .before .if1 .left) (h (c .before .if1 .left)))))
+    (λ c h. rw (c .value .ensures) (numbered _ _ (search needs) (c .before .if1 .taken) (h (c .before .if1 .taken))))
+    (λ c κs. search needs)
+    (λ c h. rw (c .refused .ensures) (refused _ _ (c .before .if1 .left))))

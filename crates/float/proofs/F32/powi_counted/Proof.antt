@@ -4,7 +4,7 @@ use borrow.Author.Needs.{needs}
 use Prim.Native.Nat.{ℕ, _^_}
 use mathlib.Core.Path.{_≡_, refl, sym, ap, _∙_}
 use mathlib.Core.Bool.{cond}
-use mathlib.Core.Option.{Option, none, some, Option·getD}
+use mathlib.Core.Option.{Option, none, some}
 use borrow.Author.Tests.{eq-eqb, ne-eqb}
 use lib.IntN.{ℤ}
 use lib.ListN.{length}
@@ -13,7 +13,8 @@ use mir.Val.{ofZ, toZ}
 use mir.Facts.{toZ-ofZ}
 use Rattle.float.specs.declared.F32.{F32}
 use Rattle.float.specs.declared.powi.Counted.{Counted}
-use Rattle.float.specs.Powi.{powiWorks, squaringWord, isNearOne, approx, isPast, isBelow, infinite, early, powiWord, formed, productsOf}
+use Rattle.float.specs.Powi.{powiWorks, squaringWord, isNearOne, approx, isPast, isBelow, infinite, early, powiWord, productsOf}
+use Rattle.float.proofs.Products.{early-takes-none, squaring-takes-all}
 use Rattle.float.proofs.F32.powi_counted.Statement.{statement}
 use Rattle.float.proofs.F32.powi_counted.Tie as tie
 
@@ -23,18 +24,12 @@ abbrev Counts : ℕ → ℤ → Counted → Type 0
 Counts w n r = (r .number .0 ≡ powiWord w n) × (r .products ≡ productsOf w n)
 
 at-once : (w : ℕ) (n : ℤ) (v : ℕ) (x : F32) (r : Counted) → early w n ≡ some v → (r .number ≡ x) × (r .products ≡ 0) → x .0 ≡ v → Counts w n r
-unfolding powiWord productsOf
-at-once w n v x r e p d = (
-  ap (λ (y : F32). y .0) (p .0) ∙ d ∙ sym (ap (λ (o : Option ℕ). Option·getD o (squaringWord w n)) e),
-  p .1 ∙ sym (ap (λ (o : Option ℕ). length (formed o (powiWorks w n))) e),
-)
+at-once w n v x r e p d = let due = early-takes-none w n v e in (ap (λ (y : F32). y .0) (p .0) ∙ d ∙ sym (due .1), p .1 ∙ sym (due .0))
 
 by-squaring : (w : ℕ) (n m : ℤ) (r : Counted) → early w n ≡ none → m ≡ n → (r .number .0 ≡ squaringWord w m) × (r .products ≡ length (powiWorks w m)) → Counts w n r
-unfolding powiWord productsOf
-by-squaring w n m r e d p = (
-  p .0 ∙ ap (squaringWord w) d ∙ sym (ap (λ (o : Option ℕ). Option·getD o (squaringWord w n)) e),
-  p .1 ∙ ap (λ (k : ℤ). length (powiWorks w k)) d ∙ sym (ap (λ (o : Option ℕ). length (formed o (powiWorks w n))) e),
-)
+by-squaring w n m r e d p =
+    let due = squaring-takes-all w n e in
+    (p .0 ∙ ap (squaringWord w) d ∙ sym (due .1), p .1 ∙ ap (λ (k : ℤ). length (powiWorks w k)) d ∙ sym (due .0))
 
 -- the last of the early answers, for a base far from 1
 abbrev far : ℕ → ℤ → Option ℕ
