@@ -58,11 +58,11 @@ magic-is : (f : Format) → invMagic f ≡ hid f + fields f * hid f
 magic-is binary32 = refl
 magic-is binary64 = refl
 
-magic-below : (f : Format) → invMagic f < infWord f
+pub magic-below : (f : Format) → invMagic f < infWord f
 magic-below binary32 = lit< tt
 magic-below binary64 = lit< tt
 
-magic-fits : (f : Format) → invMagic f < 2 ^ width f
+pub magic-fits : (f : Format) → invMagic f < 2 ^ width f
 magic-fits binary32 = lit< tt
 magic-fits binary64 = lit< tt
 

@@ -16,11 +16,15 @@ pub mod CastMeaning
 pub mod Clipped
 pub mod Pinned
 pub mod Order
+pub mod Larger
 pub mod Normal
 pub mod Inv
 pub mod Sqrt
 pub mod Invsqrt
+pub mod SqrtExact
+pub mod EstimateOrder
 pub mod AtLeastZero
+pub mod Compared
 pub mod Same
 pub mod Exact
 pub mod TakenOff

@@ -71,7 +71,7 @@ module _ (f : Format) (w : ℕ) where
 pub own-sign : (f : Format) (w : ℕ) → ofBits f w ≡ withSign (negative f w) (ofBits f w)
 own-sign f w = same-but-sign f w w refl refl
 
-neg-with : (s : Bool) (x : Float) → neg (withSign s x) ≡ withSign (not s) x
+pub neg-with : (s : Bool) (x : Float) → neg (withSign s x) ≡ withSign (not s) x
 unfolding neg
 neg-with s nan = refl
 neg-with s (inf t) = refl

@@ -50,18 +50,18 @@ weighed n h s b x v k p c ex ev ek r =
 -- ---- the bound
 
 -- the bias is odd, and this is half of it
-abbrev middle : Format → ℕ
+abbrev pub middle : Format → ℕ
 middle f = emax f / 2
 
-one-is : (f : Format) → oneWord f ≡ suc (2 * middle f) * hid f
+pub one-is : (f : Format) → oneWord f ≡ suc (2 * middle f) * hid f
 one-is binary32 = refl
 one-is binary64 = refl
 
-one-weighs : (f : Format) → 2 ^ low f ≡ hid f * (2 ^ middle f * 2 ^ middle f)
+pub one-weighs : (f : Format) → 2 ^ low f ≡ hid f * (2 ^ middle f * 2 ^ middle f)
 one-weighs binary32 = refl
 one-weighs binary64 = refl
 
-sum-fits : (f : Format) → infWord f + oneWord f < 2 ^ width f
+pub sum-fits : (f : Format) → infWord f + oneWord f < 2 ^ width f
 sum-fits binary32 = lit< tt
 sum-fits binary64 = lit< tt
 
@@ -72,12 +72,12 @@ module _ (f : Format) (w : ℕ) (n : Normal f w) where
   sum-lt : w + oneWord f < 2 ^ width f
   sum-lt = omega (arith, sum-fits f)
 
-  answer : sqrtWord f w ≡ suc (pairs f w + middle f) * hid f + rest f w / 2
+  pub answer : sqrtWord f w ≡ suc (pairs f w + middle f) * hid f + rest f w / 2
   answer =
       rw (up-to-infinity f w (le-of-lt (n .below)), mod-eq-of-lt sum-lt, sum)
       (mul-add-div (lit< tt) (suc (pairs f w + middle f) * hid f) (rest f w))
 
-  answer-below : sqrtWord f w < infWord f
+  pub answer-below : sqrtWord f w < infWord f
   answer-below = omega (arith, answer, sum, one-is f)
 
   pub sqrt-finite : Finite f (sqrtWord f w)

@@ -9,3 +9,4 @@ pub mod Parts
 pub mod Whole
 pub mod Meaning
 pub mod Estimates
+pub mod Ordered

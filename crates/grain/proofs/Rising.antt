@@ -21,8 +21,9 @@ use Rattle.format.specs.Value.{units}
 use Rattle.format.proofs.Value.{word-value}
 use Rattle.format.proofs.Same.{zeroOf}
 use Rattle.format.proofs.Exact.{less-zero}
+use Rattle.format.proofs.Larger.{units-mono}
 use Rattle.sizes.proofs.Size.{AtMost, NotNegative, add-not-negative}
-use Rattle.sizes.proofs.Words.{word-at-most, units-mono}
+use Rattle.sizes.proofs.Words.{word-at-most}
 use Rattle.grain.specs.declared.Grain.{Grain}
 use Rattle.grain.specs.Grain.{fresh, mostSamples, largest, taken, turnedAway, nextMean, nextSum}
 use Rattle.grain.specs.History.{after}

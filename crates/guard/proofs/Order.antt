@@ -21,11 +21,11 @@ use Rattle.format.specs.Classes.{isZero}
 use Rattle.format.proofs.Fields.{magnitude-lt, sign-and-magnitude}
 use Rattle.format.proofs.Value.{word-value, lt-values}
 use Rattle.format.proofs.Order.{either}
+use Rattle.format.proofs.Larger.{units-mono, magnitude-mono}
 use Rattle.float.specs.Engine.{ieee}
 use Rattle.float.specs.Cos.{cosWord}
 use Rattle.float.specs.Powf.{productWord}
 use Rattle.float.specs.DivEuclid.{quotientWord}
-use Rattle.sizes.proofs.Words.{units-mono, magnitude-mono}
 use Rattle.guard.specs.declared.gate.Gate.{Gate}
 use Rattle.guard.specs.Operations.{among, opExp, opPowf, opAtan2, opHypot, opTan, opRemEuclid, opDivEuclid}
 use Rattle.guard.specs.Gates.{low, high, other, unbounded, gates, gateOf, place, passes, larger, judgedSize, judged}

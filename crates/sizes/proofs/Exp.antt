@@ -22,10 +22,11 @@ use Rattle.format.specs.Exponent.{exponentValue, moved, setExponentWord}
 use Rattle.format.specs.Parts.{truncWord, fractWord}
 use Rattle.format.specs.Meaning.{Under32}
 use Rattle.format.proofs.PartsMeaning.{trunc-under32, fract-under32}
+use Rattle.format.proofs.Larger.{units-mono}
 use Rattle.float.specs.Rounded.{isAt}
 use Rattle.float.specs.Exp.{series, clipped, scaledWord, logWord, seriesWord, exponentOf, powerWord, expWord}
 use Rattle.sizes.proofs.Size.{AtMost, mul-at-most, add-at-most, div-at-most}
-use Rattle.sizes.proofs.Words.{constant, own-at-most, own-at-least, units-at-most, word-at-most, at-most-number, at-most-word, number-word, units-mono}
+use Rattle.sizes.proofs.Words.{constant, own-at-most, own-at-least, units-at-most, word-at-most, at-most-number, at-most-word, number-word}
 
 -- ---- integers from above
 

@@ -22,10 +22,11 @@ use Rattle.format.proofs.Normal.{normal-finite, finite-below, units-of}
 use Rattle.format.proofs.Inv.{inv-normal}
 use Rattle.format.proofs.Value.{word-value, lt-values}
 use Rattle.format.proofs.Order.{either}
+use Rattle.format.proofs.Larger.{units-mono}
 use Rattle.float.specs.Rounded.{_⊗_, number, isAt}
 use Rattle.float.specs.Ln.{polynomial, power, rest, logarithm, lnWord}
 use Rattle.sizes.proofs.Size.{AtMost, round-at-most, mul-at-most, add-at-most, sub-at-most, neg-at-most, div-within}
-use Rattle.sizes.proofs.Words.{constant, own-at-most, own-at-least, at-most-number, number-word, units-mono}
+use Rattle.sizes.proofs.Words.{constant, own-at-most, own-at-least, at-most-number, number-word}
 
 -- at most 64 where z is at most 2
 polynomial-at-most : {z : Float} → AtMost binary32 0x4000_0000 z → AtMost binary32 0x4280_0000 (polynomial z)

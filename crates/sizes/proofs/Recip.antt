@@ -18,10 +18,11 @@ use Rattle.format.specs.Fields.{exponent, magnitude, infWord}
 use Rattle.format.specs.Value.{units, Finite}
 use Rattle.format.proofs.Normal.{finite-below}
 use Rattle.format.proofs.Order.{no-wrap}
+use Rattle.format.proofs.Larger.{units-mono}
 use Rattle.float.specs.Rounded.{_⊗_, number}
 use Rattle.float.specs.Recip.{side, estimate, recipMagic, correction, recipWord}
 use Rattle.sizes.proofs.Size.{AtMost, AtLeast, NotNegative, round-not-negative, mul-at-most, mul-within, mul-reaching, add-at-most, sub-at-most, neg-at-most, neg-at-least}
-use Rattle.sizes.proofs.Words.{constant, own-at-most, own-at-least, at-most-word, at-least-word, sign-word, number-word, units-mono, units-field}
+use Rattle.sizes.proofs.Words.{constant, own-at-most, own-at-least, at-most-word, at-least-word, sign-word, number-word, units-field}
 use Rattle.sizes.proofs.Numbers.{mul-number, mul-number-some-right}
 
 -- at most 2 ^ 16 where w is at most 2

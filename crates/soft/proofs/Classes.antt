@@ -15,8 +15,8 @@ use Rattle.format.specs.Value.{unitsAt, units, Finite}
 use Rattle.format.proofs.AtLeastZero.{inf-pos}
 use Rattle.format.proofs.Fields.{hid-pos, low-of-magnitude}
 use Rattle.format.proofs.Nan.{inf-read}
+use Rattle.format.proofs.Larger.{magnitude-mono}
 use Rattle.soft.specs.Operations.{Nan, Infinite, Zero, NonZero}
-use Rattle.sizes.proofs.Words.{magnitude-mono}
 
 module _ (f : Format) (w : ℕ) where
   pub inf-number : Infinite f w → nanBits f w ≡ false

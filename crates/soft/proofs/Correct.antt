@@ -15,7 +15,7 @@ use Rattle.format.proofs.AtLeastZero.{inf-lt}
 use Rattle.format.proofs.Fields.{sign-and-magnitude, sign-of}
 use Rattle.format.proofs.Normal.{finite-below}
 use Rattle.format.proofs.Order.{either, sub-mul}
-use Rattle.sizes.proofs.Words.{units-strict}
+use Rattle.format.proofs.Larger.{units-strict}
 use Rattle.soft.specs.Rounding.{apart, past, Rounded}
 use lib.Pow.{pow-pos}
 use Rattle.soft.specs.Digits.{nearestWord, scaledWord}

@@ -18,7 +18,7 @@ use Rattle.format.specs.Value.{units}
 use Rattle.format.proofs.AtLeastZero.{inf-pos}
 use Rattle.format.proofs.Nan.{nan-read}
 use Rattle.format.proofs.Value.{word-value, lt-values}
-use Rattle.sizes.proofs.Words.{units-mono, units-strict}
+use Rattle.format.proofs.Larger.{units-mono, units-strict}
 use Rattle.soft.specs.Digits.{nearestWord, scaledWord}
 use Rattle.soft.proofs.Classes.{Class, a-nan, an-inf, a-number, class-of, inf-is, below-infinite, units-pos, zero-units}
 

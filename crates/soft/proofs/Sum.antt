@@ -15,13 +15,13 @@ use Rattle.format.proofs.Nan.{nan-read, nan-written}
 use Rattle.format.proofs.Order.{either}
 use Rattle.format.proofs.Sign.{turned-read}
 use Rattle.format.proofs.Value.{word-value, add-signed}
+use Rattle.format.proofs.Larger.{units-mono, units-strict}
 use Rattle.soft.specs.Rounding.{Rounded}
 use Rattle.soft.specs.Operations.{Infinite, Adds, Subtracts}
 use Rattle.soft.specs.Words.{addWord, subWord}
 use Rattle.soft.specs.Digits.{nearestWord}
 use Rattle.soft.proofs.Classes.{operated, inf-is, inf-written, class-of, Class, a-nan, an-inf, a-number}
 use lib.Arith.{lt-of-le-ne}
-use Rattle.sizes.proofs.Words.{units-mono, units-strict}
 use Rattle.soft.proofs.Correct.{round-word-rounded, rounded-one}
 use Rattle.soft.proofs.Values.{add-nan-first, add-nan-second, add-inf-inf, add-inf-first, add-inf-second}
 use Rattle.soft.proofs.Shifted.{zero-round}

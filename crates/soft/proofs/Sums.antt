@@ -11,13 +11,13 @@ use lib.Ieee.Nearest.{div-mono}
 use Rattle.format.specs.Fields.{magnitude, exponent}
 use Rattle.format.specs.Value.{units}
 use Rattle.format.proofs.Fields.{hid-pos}
-use Rattle.sizes.proofs.Words.{units-mono}
 use Rattle.soft.specs.Digits.{nearestWord, scaledWord, digitsOf, placesOf}
 use Rattle.soft.proofs.Digits.{units-digits, small-digits, digits-ge}
 use lib.Ieee.Nearest.{closest}
 use lib.Ieee.Order.{drop, kept}
 use Rattle.format.specs.Fields.{infWord}
 use Rattle.format.proofs.Order.{either, sub-mul}
+use Rattle.format.proofs.Larger.{units-mono}
 use mathlib.Core.Logic.{inl, inr}
 use Rattle.soft.proofs.Nearest.{Near, closest-near, near-one}
 use Rattle.soft.proofs.Scaled.{round-equal, round-inside, round-outside, size-is}

@@ -13,7 +13,7 @@ use Rattle.format.specs.Value.{units}
 use Rattle.format.proofs.Fields.{hid-pos}
 use Rattle.format.proofs.Order.{either}
 use Rattle.format.proofs.Normal.{below-top, units-of}
-use Rattle.sizes.proofs.Words.{magnitude-mono}
+use Rattle.format.proofs.Larger.{magnitude-mono}
 use Rattle.soft.proofs.Rounded.{rounded-units}
 
 small-top : (f : Format) (q : ℕ) → q < hid f → q < top f

@@ -24,8 +24,8 @@ use Rattle.format.proofs.FloorMeaning.{floor-is}
 use Rattle.format.proofs.Unique.{one-floor}
 use Rattle.format.proofs.Value.{word-value, value-word, lt-values, add-signed, sub-signed}
 use Rattle.format.proofs.Whole.{floor-fits}
+use Rattle.format.proofs.Larger.{units-mono}
 use Rattle.float.specs.Engine.{ieee, floorOf}
-use Rattle.sizes.proofs.Words.{units-mono}
 use Rattle.guard.proofs.Order.{same-test}
 
 -- 3 * 2 ^ 22, as a whole number and as a value, and 1

@@ -19,13 +19,14 @@ use Rattle.float.specs.Engine.{ieee, absOf}
 use Rattle.float.specs.Atan.{signOr, quotient}
 use Rattle.float.specs.Atan2.{offset, ratio, quarters, withinHalf, atan2Word}
 use Rattle.float.proofs.Signs.{signs-or, offset-is}
+use Rattle.sizes.proofs.Sign.{product-size, square-size}
 use Rattle.sizes.proofs.Words.{abs-value, number-word}
 use Rattle.sizes.proofs.Numbers.{add-number-left}
 use Rattle.sizes.proofs.Quotient.{sign-or-number, read-number, half-turns}
 use Rattle.sizes.proofs.Atan2.{offset-finite, within-number, ratio-number}
 use Rattle.strip.specs.Reach.{AngleReach}
 use Rattle.strip.specs.Steps.{inRadians, wholeTurn, quadrantWord}
-use Rattle.strip.proofs.Sized.{product-size, square-size, bend, bent-size, times-nan, and-nan}
+use Rattle.strip.proofs.Sized.{bend, bent-size, times-nan, and-nan}
 
 -- ---- the quotient
 

@@ -1,39 +1,18 @@
--- A product's size is the product of the sizes, and a word's size is a NaN where the word is; a NaN is handed on by every step, and what is
--- put in its place is none. Assumes nothing.
-use Prim.Native.Nat.{ℕ, _*_}
+-- The size of a product with 0.596227, and a word's size is a NaN where the word is; a NaN is handed on by every step, and what is put in its
+-- place is none. Assumes nothing.
+use Prim.Native.Nat.{ℕ}
 use mathlib.Core.Path.{_≡_, refl, sym, ap, _∙_}
 use mathlib.Core.Bool.{Bool, true, false, cond, _||_, true≢false}
-use lib.Dec.{T, eqb}
-use lib.Ieee.{Format, Float, nan, inf, fin, binary32, unlike, up, down, round, add, mul, ne, isNan, fits, nanBits, ofBits, toBits}
+use lib.Dec.{T}
+use lib.Ieee.{Format, Float, nan, inf, fin, binary32, add, mul, ne, isNan, fits, nanBits, ofBits, toBits}
 use lib.Ieee.Compare.{nan-differs}
 use Rattle.format.specs.Fields.{magnitude}
 use Rattle.format.specs.Sign.{withSign}
-use Rattle.format.proofs.Exact.{unlike-itself}
 use Rattle.format.proofs.Sign.{abs-is}
-use Rattle.sizes.proofs.Sign.{round-signed}
+use Rattle.sizes.proofs.Sign.{product-size}
 use Rattle.sizes.proofs.Words.{number-word}
 
--- ---- products
-
-nan-or-inf : (b s : Bool) → withSign false (cond b nan (inf s)) ≡ cond b nan (inf false)
-nan-or-inf true s = refl
-nan-or-inf false s = refl
-
-pub product-size : (f : Format) (x y : Float) → withSign false (mul f x y) ≡ mul f (withSign false x) (withSign false y)
-unfolding mul
-product-size f nan y = refl
-product-size f (inf s) nan = refl
-product-size f (inf s) (inf t) = refl
-product-size f (inf s) (fin t n d) = nan-or-inf (eqb n 0) (unlike s t)
-product-size f (fin s m e) nan = refl
-product-size f (fin s m e) (inf t) = nan-or-inf (eqb m 0) (unlike s t)
-product-size f (fin s m e) (fin t n d) = round-signed f (unlike s t) false (m * up e * (n * up d)) (down e * down d)
-
-pub square-size : (f : Format) (x : Float) → mul f x x ≡ mul f (withSign false x) (withSign false x)
-unfolding mul
-square-size f nan = refl
-square-size f (inf s) = ap inf (unlike-itself s)
-square-size f (fin s m e) = ap (λ (b : Bool). round f b (m * up e * (m * up e)) (down e * down e)) (unlike-itself s)
+-- ---- the product
 
 -- 0.596227
 abbrev pub bend : Float

@@ -15,11 +15,12 @@ use Rattle.format.proofs.Sign.{abs-is}
 use Rattle.float.specs.Engine.{ieee}
 use Rattle.float.specs.Atan.{signOr, signedAnswer, quotient, firstQuadrant, atanNormWord, atanWord}
 use Rattle.float.proofs.Signs.{or-answered}
+use Rattle.sizes.proofs.Sign.{square-size}
 use Rattle.sizes.proofs.Words.{abs-value, at-most-number, number-word}
 use Rattle.sizes.proofs.Quotient.{sign-or-number, read-number, half-turns}
 use Rattle.sizes.proofs.Atan.{quotient-at-most}
 use Rattle.strip.specs.Steps.{inRadians, signedWord}
-use Rattle.strip.proofs.Sized.{square-size, bend, bent-size, is-itself}
+use Rattle.strip.proofs.Sized.{bend, bent-size, is-itself}
 
 -- ---- the quotient
 

@@ -1,0 +1,84 @@
+-- As the number grows sqrt's answer never falls, from +0 up to the infinity, and the answers of invsqrt and inv never rise, inv's up to where its
+-- subtraction wraps. Assumes nothing.
+use Prim.Native.Nat.{ℕ, _+_, _-_, _/_, _^_, _≤_, _<_}
+use native.Mathlib.Nat.{mod-eq-of-lt, le-trans, le-of-lt}
+use native.Mathlib.Omega.{arith}
+use mathlib.Core.Path.{_≡_, refl, sym, _∙_}
+use mathlib.Core.Bool.{true}
+use borrow.Author.Tests.{leb-true}
+use lib.Dec.{lit<, lit≤}
+use lib.Ieee.{Format, binary32, binary64, hid, le, lt, eq, ofBits}
+use Rattle.format.specs.Fields.{width, infWord, oneWord}
+use Rattle.format.specs.Estimates.{sqrtWord, invMagic, invWord, invsqrtMagic, invsqrtWord, Normal}
+use Rattle.format.specs.Ordered.{Unsigned, Unwrapped, NoLarger}
+use Rattle.format.proofs.Order.{no-wrap}
+use Rattle.format.proofs.AtLeastZero.{up-to-infinity}
+use Rattle.format.proofs.Compared.{to-infinity, order-of-words, no-larger}
+use Rattle.format.proofs.Sqrt.{sum-fits}
+use Rattle.format.proofs.Inv.{magic-below, magic-fits}
+
+-- ---- sqrt
+
+halved : (f : Format) (w : ℕ) → w ≤ infWord f → sqrtWord f w ≡ (w + oneWord f) / 2
+halved f w h = let l : w + oneWord f < 2 ^ width f = omega (arith, sum-fits f) in rw (up-to-infinity f w h, mod-eq-of-lt l)
+
+-- the half of 1's word, and that of 1's with the infinity's
+ends : (f : Format) → (hid f ≤ oneWord f / 2) × ((infWord f + oneWord f) / 2 < infWord f)
+ends binary32 = (lit≤ tt, lit< tt)
+ends binary64 = (lit≤ tt, lit< tt)
+
+-- each answer is a positive normal number
+pub sqrt-normal : (f : Format) (w : ℕ) → Unsigned f w → Normal f (sqrtWord f w)
+sqrt-normal f w u =
+    let h = to-infinity f w u in
+    let e = ends f in
+    rw (halved f w h) (record { above = omega arith; below = omega arith })
+
+pub sqrt-keeps-order : (f : Format) (w v : ℕ) → Unsigned f v → w ≤ v → NoLarger f (sqrtWord f w) (sqrtWord f v)
+sqrt-keeps-order f w v u h =
+    let k = to-infinity f v u in
+    no-larger f (sqrtWord f w) (sqrtWord f v) (rw (halved f w (le-trans h k), halved f v k) (omega arith)) (le-of-lt (sqrt-normal f v u .below))
+
+-- the same of two numbers that IEEE 754 compares
+pub sqrt-rises : (f : Format) (w v : ℕ) → Unsigned f w → Unsigned f v → le (ofBits f w) (ofBits f v) ≡ true → NoLarger f (sqrtWord f w) (sqrtWord f v)
+sqrt-rises f w v p q h = sqrt-keeps-order f w v q (leb-true w v (sym (order-of-words f w v p q) ∙ h))
+
+-- it does not always rise, as from +0 to the number next to it; and past the infinity it falls, from a NaN to -0
+pub sqrt-rests : sqrtWord binary32 0x0000_0000 ≡ sqrtWord binary32 0x0000_0001
+unfolding le lt eq ofBits
+sqrt-rests = refl
+
+pub sqrt-falls-past : sqrtWord binary32 0x8000_0000 < sqrtWord binary32 0x7f80_0001
+unfolding le lt eq ofBits
+sqrt-falls-past = lit< tt
+
+-- ---- invsqrt, at binary32
+
+invsqrt-answer : (w : ℕ) → w ≤ infWord binary32 → invsqrtWord w ≡ invsqrtMagic - w / 2
+invsqrt-answer w h = no-wrap (2 ^ 32) invsqrtMagic (w / 2) (omega arith) (lit< tt)
+
+pub invsqrt-turns-order : (w v : ℕ) → Unsigned binary32 v → w ≤ v → NoLarger binary32 (invsqrtWord v) (invsqrtWord w)
+invsqrt-turns-order w v u h =
+    let k = to-infinity binary32 v u in
+    let i = le-trans h k in
+    no-larger binary32 (invsqrtWord v) (invsqrtWord w) (rw (invsqrt-answer v k, invsqrt-answer w i) (omega arith)) (rw (invsqrt-answer w i) (omega arith))
+
+-- ---- inv
+
+inv-answer : (f : Format) (w : ℕ) → Unwrapped f w → invWord f w ≡ invMagic f - w
+inv-answer f w h = no-wrap (2 ^ width f) (invMagic f) w h (magic-fits f)
+
+pub inv-turns-order : (f : Format) (w v : ℕ) → Unwrapped f v → w ≤ v → NoLarger f (invWord f v) (invWord f w)
+inv-turns-order f w v u h =
+    let i : Unwrapped f w = le-trans h u in
+    no-larger f (invWord f v) (invWord f w) (rw (inv-answer f v u, inv-answer f w i) (omega arith)) (rw (inv-answer f w i) (omega (arith, magic-below f)))
+
+-- it never rests
+pub inv-apart : (f : Format) (w v : ℕ) → Unwrapped f v → w < v → invWord f v < invWord f w
+inv-apart f w v u h =
+    let i : Unwrapped f w = le-trans (le-of-lt h) u in
+    rw (inv-answer f v u, inv-answer f w i) (omega arith)
+
+-- past 2 ^ 127 the subtraction wraps: from 0 to the last word of all, a NaN
+pub inv-wraps : (invWord binary32 0x7f00_0000 ≡ 0x0000_0000) × (invWord binary32 0x7f00_0001 ≡ 0xffff_ffff)
+inv-wraps = (refl, refl)
