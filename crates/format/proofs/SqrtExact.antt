@@ -6,10 +6,8 @@ use mathlib.Core.Path.{_≡_, refl, sym, ap, _∙_}
 use mathlib.Core.Logic.{_⊎_, inl, inr}
 use mathlib.Core.List.{[], _∷_, map}
 use borrow.Author.Tests.{eqb-false}
-use lib.Dec.{eqb}
 use lib.Pow.{pow-add, pow-pos, pow-mono}
 use lib.Ieee.{Format, binary32, low, hid, lt, eq, le, ofBits}
-use Rattle.format.specs.Fields.{infWord}
 use Rattle.format.specs.Value.{units}
 use Rattle.format.specs.Estimates.{sqrtWord, Normal}
 use Rattle.format.specs.Ordered.{Power, EvenPower, Squares}

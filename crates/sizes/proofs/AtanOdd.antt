@@ -3,13 +3,13 @@
 use Prim.Native.Nat.{ℕ, _+_, _*_, _^_, _≤_, _<_, zero-le}
 use native.Mathlib.Nat.{le-of-eq, mul-comm, zero-mul, div-lt-iff-lt-mul}
 use native.Mathlib.Omega.{arith}
-use mathlib.Core.Path.{_≡_, refl, sym, ap, subst, _∙_}
+use mathlib.Core.Path.{_≡_, refl, ap, subst, _∙_}
 use mathlib.Core.Logic.{_⊎_, inl, inr}
 use mathlib.Core.Bool.{Bool, true, false, not}
 use mathlib.Core.List.{[], _∷_, map}
 use borrow.Author.Tests.{eqb-false}
 use lib.Dec.{T, lit<}
-use lib.Ieee.{Format, Float, nan, inf, fin, binary32, up, down, round, neg, add, mul, div, nanBits, ofBits, toBits}
+use lib.Ieee.{Format, Float, nan, inf, fin, binary32, up, down, add, mul, div, nanBits, ofBits, toBits}
 use lib.Ieee.Bits.{ofBits-toBits}
 use lib.Ieee.Fits.{mul-fits, div-fits, add-fits}
 use lib.Ieee.Scale.{finite}
@@ -25,7 +25,7 @@ use Rattle.float.specs.Engine.{ieee, absOf}
 use Rattle.float.specs.Atan.{signedAnswer, firstQuadrant, atanNormWord, atanWord}
 use Rattle.sizes.specs.Angles.{Under64, WithinOne, WithinQuarter}
 use Rattle.sizes.proofs.Sign.{product-size, square-size, product-turned}
-use Rattle.sizes.proofs.Size.{AtMost, AtLeast, NotNegative, mul-at-most, mul-within, add-at-most, div-within, square-not-negative, add-not-negative, add-at-least, add-at-least-right, not-zero, round-not-negative}
+use Rattle.sizes.proofs.Size.{AtMost, AtLeast, NotNegative, mul-at-most, add-at-most, div-within, square-not-negative, add-not-negative, add-at-least-right, not-zero, round-not-negative}
 use Rattle.sizes.proofs.Words.{constant, word-at-most, own-at-most, own-at-least, at-most-number, number-word, abs-value, abs-at-most, at-most-word, sign-word}
 use Rattle.sizes.proofs.Quotient.{abs-not-negative, by-first}
 use Rattle.sizes.proofs.Atan.{one-not-negative, one-at-least, largest-square}
@@ -42,7 +42,7 @@ quadrant-even x s =
     let c = ofBits binary32 0x3f18_a255 in
     let y = withSign s x in
     let size : (z : Float) → absOf ieee (mul binary32 c z) ≡ mul binary32 (withSign false c) (withSign false z) = λ z.
-      abs-value binary32 (mul binary32 c z) (mul-fits binary32 c z) ∙ product-size binary32 c z in
+    abs-value binary32 (mul binary32 c z) (mul-fits binary32 c z) ∙ product-size binary32 c z in
     let e = resigned s x in
     cc (size x, size y, square-size binary32 x, square-size binary32 y)
 
@@ -150,7 +150,7 @@ module _ (w : ℕ) (h : Under64 w) where
       let m = magnitude binary32 q in
       let s = negative binary32 w in
       let e : firstQuadrant ieee (ofBits binary32 (turnedWord binary32 w)) ≡ firstQuadrant ieee x =
-        ap (firstQuadrant ieee) (sign-set binary32 (not s) w .value) ∙ quadrant-even x (not s) in
+      ap (firstQuadrant ieee) (sign-set binary32 (not s) w .value) ∙ quadrant-even x (not s) in
       rw (e, turned-sign binary32 w, signed (not s), signed s, sign-of binary32 m (magnitude-lt binary32 q) s, magnitude-of binary32 m (magnitude-lt binary32 q) s)
 
   pub atan-norm-within : WithinOne (atanNormWord ieee w)
