@@ -5,9 +5,9 @@ use native.Mathlib.Nat.{le-trans, le-of-eq, le-of-lt, lt-of-le-of-lt, eq-or-lt-o
 use native.Mathlib.Omega.{arith}
 use mathlib.Core.Path.{_≡_, refl, sym, ap, _∙_}
 use mathlib.Core.Logic.{_⊎_, inl, inr}
-use mathlib.Core.Bool.{Bool, true, false, not, _&&_, _||_, true≢false}
+use mathlib.Core.Bool.{Bool, true, false, not, _&&_, _||_, true≢false, false≢true}
 use borrow.Author.Tests.{ltb-false, leb-false, lt-ltb, le-ltb, le-leb, lt-leb, eq-eqb, ne-eqb}
-use lib.Dec.{leb, ltb, eqb, eqb·zero-suc, eqb·suc-zero}
+use lib.Dec.{leb, ltb, eqb, eqb·zero-suc, eqb·suc-zero, lit<, lit≤}
 use lib.Pow.{pow-pos}
 use lib.Ieee.{Format, binary32, binary64, Float, nan, inf, fin, up, down, low, ones, top, below, level, lt, eq, le, isNan, ofBits, nanBits}
 use lib.Ieee.Bits.{nanBits-is, nanBits-above}
@@ -184,3 +184,28 @@ within f b r h k =
     not-over : (s : Bool) (x y : ℕ) → x ≤ y → not (below false y s x) ≡ true
     not-over true x y l = refl
     not-over false x y l = ap not (le-ltb y x l)
+
+-- ---- known words
+
+-- both ends of what is unsigned, and the words next to them: a NaN, -0 and the last word of all
+pub unsigned-ends : Unsigned binary32 0x0000_0000 × Unsigned binary32 0x7f80_0000
+    × (Unsigned binary32 0x7f80_0001 → ⊥) × (Unsigned binary32 0x8000_0000 → ⊥) × (Unsigned binary32 0xffff_ffff → ⊥)
+unfolding nanBits
+unsigned-ends = (record { sign = refl; number = refl }, record { sign = refl; number = refl }, λ u. true≢false (u .number), λ u. true≢false (u .sign), λ u. true≢false (u .sign))
+
+-- 1 is no larger than itself; the next number is larger than 1, and a NaN is neither
+pub larger-than-one : NoLarger binary32 0x3f80_0000 0x3f80_0000 × (NoLarger binary32 0x3f80_0001 0x3f80_0000 → ⊥) × (NoLarger binary32 0x3f80_0000 0x7fc0_0000 → ⊥)
+unfolding le lt eq ofBits
+larger-than-one = (no-larger binary32 0x3f80_0000 0x3f80_0000 (lit≤ tt) (lit≤ tt), λ n. false≢true (n .compared), λ n. false≢true (n .compared))
+
+-- from -1 to 1: both ends, and the words next to them; a NaN is not
+pub ends-of-one : Within binary32 0x3f80_0000 0x3f80_0000 × Within binary32 0x3f80_0000 0xbf80_0000
+    × (Within binary32 0x3f80_0000 0x3f80_0001 → ⊥) × (Within binary32 0x3f80_0000 0xbf80_0001 → ⊥) × (Within binary32 0x3f80_0000 0x7fc0_0000 → ⊥)
+unfolding le lt eq ofBits
+ends-of-one = (
+  within binary32 0x3f80_0000 0x3f80_0000 (lit< tt) (lit≤ tt),
+  within binary32 0x3f80_0000 0xbf80_0000 (lit< tt) (lit≤ tt),
+  λ i. false≢true (i .most),
+  λ i. false≢true (i .least),
+  λ i. false≢true (i .most),
+)

@@ -1,21 +1,21 @@
 -- As the number grows sqrt's answer never falls, from +0 up to the infinity, and the answers of invsqrt and inv never rise, inv's up to where its
--- subtraction wraps. Assumes nothing.
-use Prim.Native.Nat.{ℕ, _+_, _-_, _/_, _^_, _≤_, _<_}
+-- subtraction wraps; and inv is odd to the bit. Assumes nothing.
+use Prim.Native.Nat.{ℕ, _+_, _-_, _*_, _/_, _^_, _≤_, _<_}
 use native.Mathlib.Nat.{mod-eq-of-lt, le-trans, le-of-lt}
 use native.Mathlib.Omega.{arith}
 use mathlib.Core.Path.{_≡_, refl, sym, _∙_}
 use mathlib.Core.Bool.{true}
 use borrow.Author.Tests.{leb-true}
 use lib.Dec.{lit<, lit≤}
-use lib.Ieee.{Format, binary32, binary64, hid, le, lt, eq, ofBits}
+use lib.Ieee.{Format, binary32, binary64, hid, top, le, lt, eq, ofBits}
 use Rattle.format.specs.Fields.{width, infWord, oneWord}
 use Rattle.format.specs.Estimates.{sqrtWord, invMagic, invWord, invsqrtMagic, invsqrtWord, Normal}
-use Rattle.format.specs.Ordered.{Unsigned, Unwrapped, NoLarger}
+use Rattle.format.specs.Ordered.{Unsigned, Unwrapped, NoLarger, OddAt}
 use Rattle.format.proofs.Order.{no-wrap}
 use Rattle.format.proofs.AtLeastZero.{up-to-infinity}
 use Rattle.format.proofs.Compared.{to-infinity, order-of-words, no-larger}
 use Rattle.format.proofs.Sqrt.{sum-fits}
-use Rattle.format.proofs.Inv.{magic-below, magic-fits}
+use Rattle.format.proofs.Inv.{magic-below, magic-fits, inv-sign}
 
 -- ---- sqrt
 
@@ -82,3 +82,7 @@ inv-apart f w v u h =
 -- past 2 ^ 127 the subtraction wraps: from 0 to the last word of all, a NaN
 pub inv-wraps : (invWord binary32 0x7f00_0000 ≡ 0x0000_0000) × (invWord binary32 0x7f00_0001 ≡ 0xffff_ffff)
 inv-wraps = (refl, refl)
+
+-- turning the operand's sign turns the answer's, of every word
+pub inv-odd : (f : Format) (w : ℕ) → w < 2 * top f → OddAt f (invWord f) w
+inv-odd = inv-sign

@@ -25,10 +25,9 @@ use Rattle.float.specs.Engine.{ieee, absOf}
 use Rattle.float.specs.Atan.{signedAnswer, firstQuadrant, atanNormWord, atanWord}
 use Rattle.sizes.specs.Angles.{Under64, WithinOne, WithinQuarter}
 use Rattle.sizes.proofs.Sign.{product-size, square-size, product-turned}
-use Rattle.sizes.proofs.Size.{AtMost, AtLeast, NotNegative, mul-at-most, add-at-most, div-within, square-not-negative, add-not-negative, add-at-least-right, not-zero, round-not-negative}
-use Rattle.sizes.proofs.Words.{constant, word-at-most, own-at-most, own-at-least, at-most-number, number-word, abs-value, abs-at-most, at-most-word, sign-word}
-use Rattle.sizes.proofs.Quotient.{abs-not-negative, by-first}
-use Rattle.sizes.proofs.Atan.{one-not-negative, one-at-least, largest-square}
+use Rattle.sizes.proofs.Size.{AtMost, AtLeast, NotNegative, mul-at-most, div-within, add-not-negative, add-at-least-right, not-zero, round-not-negative}
+use Rattle.sizes.proofs.Words.{constant, word-at-most, own-at-most, own-at-least, at-most-number, number-word, abs-value, at-most-word, sign-word}
+use Rattle.sizes.proofs.Atan.{one-not-negative, bent, bent-plus, square-plus, above-at-most, below-at-least}
 
 -- ---- the quotient does not see the sign
 
@@ -59,45 +58,21 @@ div-not-negative {f} {c} {x = fin s m e} {y = fin t n d} p i q k C =
 
 -- ---- the answer
 
-module _ (w : ℕ) (h : Under64 w) where
+module _ (w : ℕ) (h : magnitude binary32 w < 0x5f80_0000) where
   abbrev x : Float
   x = ofBits binary32 w
 
-  abbrev bent : Float
-  bent = absOf ieee (mul binary32 (ofBits binary32 0x3f18_a255) x)
-
   abbrev n : Float
-  n = add binary32 bent (mul binary32 x x)
+  n = add binary32 (bent w h) (mul binary32 x x)
 
   abbrev d : Float
-  d = add binary32 (add binary32 (ofBits binary32 0x3f80_0000) bent) n
-
-  x-at-most : AtMost binary32 0x5f7f_ffff x
-  x-at-most = word-at-most binary32 w 0x5f7f_ffff (lit< tt) (omega arith)
-
-  product-at-most : AtMost binary32 0x5f80_0000 (mul binary32 (ofBits binary32 0x3f18_a255) x)
-  product-at-most = mul-at-most 0x5f80_0000 (constant binary32 0x3f18_a255 tt) x-at-most tt
-
-  bent-plus : NotNegative bent
-  bent-plus = abs-not-negative _ (mul-fits binary32 _ _) (at-most-number product-at-most)
-
-  square-plus : NotNegative (mul binary32 x x)
-  square-plus = square-not-negative binary32 x (at-most-number x-at-most)
-
-  n-at-most : AtMost binary32 0x7f7f_ffff n
-  n-at-most = add-at-most 0x7f7f_ffff (abs-at-most (mul-fits binary32 _ _) product-at-most) (largest-square x x-at-most) tt
+  d = add binary32 (add binary32 (ofBits binary32 0x3f80_0000) (bent w h)) n
 
   n-plus : NotNegative n
-  n-plus = add-not-negative binary32 bent-plus square-plus
+  n-plus = add-not-negative binary32 (bent-plus w h) (square-plus w h)
 
-  first-plus : NotNegative (add binary32 (ofBits binary32 0x3f80_0000) bent)
-  first-plus = add-not-negative binary32 one-not-negative bent-plus
-
-  d-plus : NotNegative d
-  d-plus = add-not-negative binary32 first-plus n-plus
-
-  d-one : AtLeast binary32 0x3f80_0000 d
-  d-one = by-first one-not-negative bent-plus square-plus one-at-least (lit< tt)
+  first-plus : NotNegative (add binary32 (ofBits binary32 0x3f80_0000) (bent w h))
+  first-plus = add-not-negative binary32 one-not-negative (bent-plus w h)
 
   -- what is above the line is a word, and what is below it is as large as that
   abbrev N : ℕ
@@ -107,7 +82,7 @@ module _ (w : ℕ) (h : Under64 w) where
   n-is = ofBits-toBits binary32 n (add-fits binary32 _ _)
 
   N-finite : Finite binary32 N
-  N-finite = div-lt-iff-lt-mul (hid-pos binary32) .1 (let l = at-most-word binary32 0x7f7f_ffff n (add-fits binary32 _ _) n-at-most in omega arith)
+  N-finite = div-lt-iff-lt-mul (hid-pos binary32) .1 (let l = at-most-word binary32 0x7f7f_ffff n (add-fits binary32 _ _) (above-at-most w h) in omega arith)
 
   n-own : AtMost binary32 N n
   n-own = subst (AtMost binary32 N) n-is (own-at-most binary32 N N-finite)
@@ -120,10 +95,10 @@ module _ (w : ℕ) (h : Under64 w) where
     where
       go : (1 ≤ units binary32 N) ⊎ (units binary32 N < 1) → AtMost binary32 0x3f80_0000 (div binary32 n d)
       go (inl p) = div-within 0x3f80_0000 n-own d-own (lit< tt) p (le-of-eq (mul-comm (units binary32 N) (2 ^ 149)))
-      go (inr p) = div-within 0x3f80_0000 n-own d-one (lit< tt) (lit< tt) (let z : units binary32 N ≡ 0 = omega arith in rw (z, zero-mul (2 ^ 149)) zero-le)
+      go (inr p) = div-within 0x3f80_0000 n-own (below-at-least w h) (lit< tt) (lit< tt) (let z : units binary32 N ≡ 0 = omega arith in rw (z, zero-mul (2 ^ 149)) zero-le)
 
   q-plus : NotNegative (firstQuadrant ieee x)
-  q-plus = div-not-negative n-plus (n-at-most .finite) d-plus d-one (lit< tt)
+  q-plus = div-not-negative n-plus (above-at-most w h .finite) (add-not-negative binary32 first-plus n-plus) (below-at-least w h) (lit< tt)
 
   abbrev q : ℕ
   q = toBits binary32 (firstQuadrant ieee x)
@@ -144,36 +119,46 @@ module _ (w : ℕ) (h : Under64 w) where
   answer-size = rw (signed (negative binary32 w), magnitude-of binary32 (magnitude binary32 q) (magnitude-lt binary32 q) (negative binary32 w))
       (at-most-word binary32 0x3f80_0000 _ (div-fits binary32 _ _) q-at-most)
 
-  pub atan-norm-odd : OddAt binary32 (atanNormWord ieee) w
+  norm-odd : OddAt binary32 (atanNormWord ieee) w
   unfolding atanNormWord
-  atan-norm-odd =
+  norm-odd =
       let m = magnitude binary32 q in
       let s = negative binary32 w in
       let e : firstQuadrant ieee (ofBits binary32 (turnedWord binary32 w)) ≡ firstQuadrant ieee x =
       ap (firstQuadrant ieee) (sign-set binary32 (not s) w .value) ∙ quadrant-even x (not s) in
       rw (e, turned-sign binary32 w, signed (not s), signed s, sign-of binary32 m (magnitude-lt binary32 q) s, magnitude-of binary32 m (magnitude-lt binary32 q) s)
 
-  pub atan-norm-within : WithinOne (atanNormWord ieee w)
-  atan-norm-within = within binary32 0x3f80_0000 (atanNormWord ieee w) (lit< tt) answer-size
-
-  -- ---- PI / 2 times that
-
+  -- PI / 2 times that
   product-within : AtMost binary32 0x3fc9_0fdb (mul binary32 (ofBits binary32 0x3fc9_0fdb) (ofBits binary32 (atanNormWord ieee w)))
   product-within = mul-at-most 0x3fc9_0fdb (constant binary32 0x3fc9_0fdb tt) (word-at-most binary32 (atanNormWord ieee w) 0x3f80_0000 (lit< tt) answer-size) tt
 
-  pub atan-odd : OddAt binary32 (atanWord ieee) w
+  radians-odd : OddAt binary32 (atanWord ieee) w
   unfolding atanWord
-  atan-odd =
+  radians-odd =
       let c = ofBits binary32 0x3fc9_0fdb in
       let y = ofBits binary32 (atanNormWord ieee w) in
-      ap (λ (r : ℕ). toBits binary32 (mul binary32 c (ofBits binary32 r))) atan-norm-odd
+      ap (λ (r : ℕ). toBits binary32 (mul binary32 c (ofBits binary32 r))) norm-odd
       ∙ ap (λ (z : Float). toBits binary32 (mul binary32 c z)) (turned-read binary32 (atanNormWord ieee w))
       ∙ ap (toBits binary32) (product-turned binary32 c y)
       ∙ turned-written binary32 (mul binary32 c y) (mul-fits binary32 c y) (at-most-number product-within)
 
-  pub atan-within : WithinQuarter (atanWord ieee w)
+  radians-size : magnitude binary32 (atanWord ieee w) ≤ 0x3fc9_0fdb
   unfolding atanWord
-  atan-within = within binary32 0x3fc9_0fdb (atanWord ieee w) (lit< tt) (at-most-word binary32 0x3fc9_0fdb _ (mul-fits binary32 _ _) product-within)
+  radians-size = at-most-word binary32 0x3fc9_0fdb _ (mul-fits binary32 _ _) product-within
+
+-- ---- the laws
+
+pub atan-norm-odd : (w : ℕ) → Under64 w → OddAt binary32 (atanNormWord ieee) w
+atan-norm-odd w h = norm-odd w h
+
+pub atan-norm-within : (w : ℕ) → Under64 w → WithinOne (atanNormWord ieee w)
+atan-norm-within w h = within binary32 0x3f80_0000 (atanNormWord ieee w) (lit< tt) (answer-size w h)
+
+pub atan-odd : (w : ℕ) → Under64 w → OddAt binary32 (atanWord ieee) w
+atan-odd w h = radians-odd w h
+
+pub atan-within : (w : ℕ) → Under64 w → WithinQuarter (atanWord ieee w)
+atan-within w h = within binary32 0x3fc9_0fdb (atanWord ieee w) (lit< tt) (radians-size w h)
 
 -- ---- known words
 
