@@ -91,11 +91,13 @@ pub fn signum(x: f32) -> Result<f32, Refusal> {
     guarded(Operation::Signum, x.to_bits(), 0)
 }
 
-/// The square root, some 6 percent too large at most; of 0 and -0 that same zero. Takes these and x above 0.
+/// The square root, some 6 percent too large at most; of 0 and -0 that same zero. Takes these and x above 0. It never falls as
+/// x grows, and of 2^(2k) it is 2^k, exactly.
 ///
 /// ```
 /// use dampmeadow::{sqrt, Refusal};
 /// assert_eq!(sqrt(4.0), Ok(2.0));
+/// assert_eq!(sqrt(f32::MIN_POSITIVE), Ok(1.08420217e-19)); // 2^-126 gives 2^-63
 /// assert_eq!(sqrt(2.0), Ok(1.5));
 /// assert_eq!(sqrt(-0.0).map(f32::to_bits), Ok(0x8000_0000));
 /// assert_eq!(sqrt(1.0e-40), Err(Refusal::Small));
@@ -104,7 +106,7 @@ pub fn sqrt(x: f32) -> Result<f32, Refusal> {
     guarded(Operation::Sqrt, x.to_bits(), 0)
 }
 
-/// 1 over the square root, some 4 percent off at most. Takes x above 0.
+/// 1 over the square root, some 4 percent off at most. Takes x above 0, and never rises as x grows.
 ///
 /// ```
 /// use dampmeadow::{invsqrt, Refusal};
@@ -115,8 +117,8 @@ pub fn invsqrt(x: f32) -> Result<f32, Refusal> {
     guarded(Operation::Invsqrt, x.to_bits(), 0)
 }
 
-/// 1/x, the quickest, 12.5 percent too large in size at most; of -x it is that of x with the other sign. Takes x that is not 0,
-/// |x| to 2^126.
+/// 1/x, the quickest, 12.5 percent too large in size at most; of -x it is that of x with the other sign, and the larger |x| is
+/// the smaller it is in size. Takes x that is not 0, |x| to 2^126.
 ///
 /// ```
 /// use dampmeadow::{inv, Refusal};
@@ -190,11 +192,13 @@ pub fn powf(x: f32, n: f32) -> Result<f32, Refusal> {
     guarded(Operation::Powf, x.to_bits(), n.to_bits())
 }
 
-/// The arctangent, in radians. Takes |x| under 2^64.
+/// The arctangent, in radians, from -pi/2 to pi/2; of -x it is that of x with the other sign. Takes |x| under 2^64.
 ///
 /// ```
 /// use dampmeadow::{atan, Refusal};
 /// assert_eq!(atan(0.5), Ok(0.466342807)); // 0.46365 is true
+/// assert_eq!(atan(-0.5), Ok(-0.466342807));
+/// assert_eq!(atan(1.0e19), Ok(core::f32::consts::FRAC_PI_2));
 /// assert_eq!(atan(1.0e20), Err(Refusal::Outside));
 /// ```
 pub fn atan(x: f32) -> Result<f32, Refusal> {
@@ -213,8 +217,8 @@ pub fn atan2(y: f32, x: f32) -> Result<f32, Refusal> {
     guarded(Operation::Atan2, y.to_bits(), x.to_bits())
 }
 
-/// The cosine of x radians, 0.0012 off at most. Takes |x| to 256, some 40 turns. Of a larger angle, take off the whole turns
-/// first, with [`rem_euclid`].
+/// The cosine of x radians, from -1 to 1 and 0.0012 off at most. Takes |x| to 256, some 40 turns. Of a larger angle, take off
+/// the whole turns first, with [`rem_euclid`].
 ///
 /// ```
 /// use core::f32::consts::TAU;
@@ -229,7 +233,7 @@ pub fn cos(x: f32) -> Result<f32, Refusal> {
     guarded(Operation::Cos, x.to_bits(), 0)
 }
 
-/// The sine of x radians, 0.0012 off at most. Takes |x| to 256; for a larger angle see [`cos`].
+/// The sine of x radians, from -1 to 1 and 0.0012 off at most. Takes |x| to 256; for a larger angle see [`cos`].
 ///
 /// ```
 /// use dampmeadow::{sin, Refusal};

@@ -154,11 +154,13 @@ pub fn guarded(op: Operation, a: u32, b: u32) -> Result<f32, Refusal> {
     call(op.number(), a, b).map(f32::from_bits)
 }
 
-/// The arctangent as a share of a quarter turn, guarded. Takes |x| under 2^64. It has no operation number.
+/// The arctangent as a share of a quarter turn, guarded: from -1 to 1, and of -x that of x with the other sign. Takes |x| under
+/// 2^64. It has no operation number.
 ///
 /// ```
 /// use dampmeadow::{atan_norm, Refusal};
 /// assert_eq!(atan_norm(1.0), Ok(0.5));
+/// assert_eq!(atan_norm(-1.0e19), Ok(-1.0));
 /// assert_eq!(atan_norm(f32::INFINITY), Err(Refusal::NotFinite));
 /// ```
 pub fn atan_norm(x: f32) -> Result<f32, Refusal> {

@@ -88,7 +88,8 @@ pub fn div(a: u32, b: u32) -> u32 {
 }
 
 /// About the cosine of an angle in radians: what [`raw`](crate::raw) gives for [`Operation::Cos`](crate::Operation::Cos). To
-/// 256 in size it is 0.0012 off at most, and further off the larger the angle is; of one above 10^10 it may be any number.
+/// 256 in size it is 0.0012 off at most, and further off the larger the angle is. To 26353588 in size it is from -1 to 1; of a
+/// larger angle it may be any number.
 ///
 /// ```
 /// use dampmeadow::soft::cos;
@@ -115,7 +116,8 @@ pub fn sin(a: u32) -> u32 {
 }
 
 /// About the arctangent, as a share of a quarter turn: what [`raw_atan_norm`](crate::raw_atan_norm) gives. Of a number under
-/// 2^64 in size it lies from -1 to 1, and of any other, an infinity too, it is a NaN.
+/// 2^64 in size it lies from -1 to 1, and turning its sign bit turns that of the answer and nothing else. Of any other, an
+/// infinity too, it is a NaN.
 ///
 /// ```
 /// use dampmeadow::soft::atan_norm;

@@ -1,4 +1,6 @@
 // The arctangent of a number, in radians and as a share of a quarter turn, by a quotient of parabolas.
+// Where the number is under 2^64 in size both are odd to the bit, and lie from -PI/2 to PI/2 and from
+// -1 to 1: laws of `sizes`, AtanOdd.antt. From there on they are a NaN.
 // Method: https://ieeexplore.ieee.org/document/6375931
 ghost use mathlib.Core.Path.{_≡_};
 ghost use Rattle.float.specs.Engine.{ieee};
@@ -16,7 +18,7 @@ impl F32 {
         F32::of(steps::FRAC_PI_2 * self.atan_norm().value())
     }
 
-    // From -1 to 1: the quotient is found without the sign, which is or-ed onto it.
+    // The quotient is found without the sign, which is or-ed onto it.
     pub fn atan_norm(self) -> F32
         ensures { λ r. ⌜ r .0 ≡ atanNormWord ieee (self .0) ⌝ }
     {

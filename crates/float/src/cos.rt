@@ -1,4 +1,5 @@
-// The cosine of a number in radians, by a parabola in turns.
+// The cosine of a number in radians, by a parabola in turns. It lies from -1 to 1 where the number is
+// at most 4bc90fdb in size, some 2^22 turns: a law of `sizes`, CosWithin.antt.
 // Method: https://stackoverflow.com/posts/28050328/revisions, after Nick Capen:
 // https://web.archive.org/web/20180105200343if_/http://forum.devmaster.net/t/fast-and-accurate-sine-cosine/9648
 ghost use mathlib.Core.Path.{_≡_};

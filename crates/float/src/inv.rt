@@ -1,6 +1,7 @@
 // The inverse, estimated by one subtraction of words that wraps. Turning the number's sign bit turns
 // the answer's and nothing else, of every word, a NaN's too. Where the number's size is from 2^-126
-// to 2^126 the answer times the number lies from 1 to 9/8 (`InvBound`).
+// to 2^126 the answer times the number lies from 1 to 9/8 (`InvBound`). From +0 to 2^127 it falls
+// from each word to the next, and past that it wraps: laws of `format`, EstimateOrder.antt.
 // Method: https://bits.stephan-brumme.com/inverse.html
 ghost use mathlib.Core.Path.{_≡_};
 ghost use lib.Ieee.{binary32};

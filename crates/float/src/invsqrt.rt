@@ -1,6 +1,7 @@
 // The inverse of the square root, estimated by one subtraction of words that wraps. Of a positive
 // normal number x the answer's square times x lies from 0.93 to 1.07 (`InvsqrtBound`), and to six
-// places from 0.932450 to 1.069107 (`InvsqrtTight`).
+// places from 0.932450 to 1.069107 (`InvsqrtTight`). From +0 up to the infinity it never rises as
+// the number grows: a law of `format`, EstimateOrder.antt.
 // Method: https://bits.stephan-brumme.com/invSquareRoot.html
 ghost use mathlib.Core.Path.{_≡_};
 ghost use lib.Ieee.{binary32};

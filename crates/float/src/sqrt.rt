@@ -1,6 +1,8 @@
 // The square root, estimated by halving the word about that of 1. Of a positive normal number the
 // answer's square lies from just below the number to 9/8 of it (`SqrtBound`); of a number below 0
-// and of a NaN it is a NaN.
+// and of a NaN it is a NaN. From +0 up to the infinity the answer never falls as the number grows,
+// and at each normal even power of two it is exact: laws of `format`, EstimateOrder.antt and
+// SqrtExact.antt.
 // Method: https://bits.stephan-brumme.com/squareRoot.html
 ghost use mathlib.Core.Path.{_≡_};
 ghost use lib.Ieee.{binary32};
