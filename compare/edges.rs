@@ -486,6 +486,33 @@ const LAST: &[Row] = &[
     ("tan", 0xc37c_e5f1, 0, Refuses(4)),
     ("tan", 0xc37c_e5f2, 0, Refuses(4)),
     ("tan", 0xc37c_e5f3, 0, Answers),
+    // powers of two: the first and the last normal even one, 1, an odd one at the end, and an even one that is too small
+    ("sqrt", 0x0080_0000, 0, Gives(0x2000_0000)),
+    ("sqrt", 0x7e80_0000, 0, Gives(0x5f00_0000)),
+    ("sqrt", 0x3f80_0000, 0, Gives(0x3f80_0000)),
+    ("sqrt", 0x7f00_0000, 0, Gives(0x5f40_0000)),
+    ("sqrt", 0x0020_0000, 0, Refuses(9)),
+    // where the raw inverse is the last that is no less, and where it wraps
+    ("inv", 0x7eff_ffff, 0, Refuses(4)),
+    ("inv", 0x7f00_0000, 0, Refuses(4)),
+    ("inv", 0x7f00_0001, 0, Refuses(4)),
+    // the steepest slopes, and a zero with its sign
+    ("atan", 0x5f7f_ffff, 0, Gives(0x3fc9_0fdb)),
+    ("atan", 0xdf7f_ffff, 0, Gives(0xbfc9_0fdb)),
+    ("atan", 0x8000_0000, 0, Gives(0x8000_0000)),
+    // where the raw cosine and the raw sine are the last within -1 and 1, and the next words
+    ("cos", 0x4bc9_0fdb, 0, Refuses(4)),
+    ("cos", 0xcbc9_0fdb, 0, Refuses(4)),
+    ("cos", 0x4bc9_0fdc, 0, Refuses(4)),
+    ("cos", 0xcbc9_0fdc, 0, Refuses(4)),
+    ("sin", 0x4bc9_0fda, 0, Refuses(4)),
+    ("sin", 0xcbc9_0fda, 0, Refuses(4)),
+    ("sin", 0x4bc9_0fdb, 0, Refuses(4)),
+    ("sin", 0xcbc9_0fdb, 0, Refuses(4)),
+    // cos is not even, and sin not odd, to the bit
+    ("cos", 0x3349_0fdc, 0, Gives(0x3f7f_ffff)),
+    ("cos", 0xb349_0fdc, 0, Gives(0x3f80_0000)),
+    ("sin", 0x8000_0000, 0, Gives(0x0000_0000)),
 ];
 
 impl Says {

@@ -10,6 +10,7 @@ mod kernels;
 mod lines;
 mod marks;
 mod offsets;
+mod order;
 mod products;
 mod reader;
 mod recipe;
@@ -150,7 +151,7 @@ fn main() {
     let keys = match (wanted.strips, wanted.speed) {
         (true, _) => vec![],
         (_, true) => vec![grain::KEY, recipes::KEY, soft::KEY],
-        _ => vec![products::KEY, strips::KEY, grain::KEY, recipes::KEY, soft::KEY],
+        _ => vec![products::KEY, order::KEY, strips::KEY, grain::KEY, recipes::KEY, soft::KEY],
     };
     if let Some(key) = wanted.only.iter().find(|key| !keys.contains(&key.as_str()) && !all.iter().any(|k| k.key() == **key)) {
         eprintln!("compare: nothing here has the number or name {key:?}");
@@ -159,7 +160,8 @@ fn main() {
     let wants = |kernel: &Kernel| wanted.only.is_empty() || wanted.only.contains(&kernel.key());
     let chosen: Vec<&Kernel> = all.iter().filter(|k| wants(k)).collect();
     let wants_key = |key: &str| wanted.only.is_empty() || wanted.only.iter().any(|only| only == key);
-    let [wants_products, wants_strips, wants_grain, wants_recipes, wants_soft] = [products::KEY, strips::KEY, grain::KEY, recipes::KEY, soft::KEY].map(wants_key);
+    let [wants_products, wants_order, wants_strips, wants_grain, wants_recipes, wants_soft] =
+        [products::KEY, order::KEY, strips::KEY, grain::KEY, recipes::KEY, soft::KEY].map(wants_key);
 
     if wanted.strips {
         println!("{}", strips_speed::heading());
@@ -185,6 +187,9 @@ fn main() {
     }
     if wants_products {
         products::products(wanted.every, &mut report);
+    }
+    if wants_order {
+        order::order(wanted.every, &mut report);
     }
     if wants_strips {
         strips::strips(wanted.every, &mut report);
