@@ -33,7 +33,8 @@ use Rattle.sizes.specs.Angles.{CosTurns, SinTurns, WithinOne}
 use Rattle.sizes.proofs.Sign.{round-signed}
 use Rattle.sizes.proofs.Size.{AtMost, mul-at-most, mul-within, add-at-most, sub-at-most, apart-at-most, over-both, under}
 use Rattle.sizes.proofs.Words.{constant, own-at-most, word-at-most, at-most-word, abs-value}
-use Rattle.sizes.proofs.Centred.{kept-word, centred-within}
+use Rattle.sizes.proofs.Kept.{kept-word}
+use Rattle.sizes.proofs.Centred.{centred-within}
 
 -- ---- the mean with the square: what is added to c has the other sign, and is no larger than 1
 
