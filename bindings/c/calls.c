@@ -1,5 +1,5 @@
 /* The headers' examples, from C: each call beside the answer that is due. Says which are wrong and exits with 1 if any is. The
- * recipes are in recipes.c, and the second engine is in soft.c. */
+ * recipes are in recipes.c, order and oddness in order.c, and the second engine is in soft.c. */
 #include "dampmeadow.h"
 #include "hold.h"
 #include <inttypes.h>
@@ -410,6 +410,7 @@ int main(void)
     line("", 11, DAMPMEADOW_MALFORMED, "0700000000\n");
     line("094080000000000000", 10, DAMPMEADOW_NO_ROOM, "");
 
+    order();
     recipes();
     second_engine();
 
