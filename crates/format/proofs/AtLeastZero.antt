@@ -37,7 +37,7 @@ fromZeroUp f w = leb w (infWord f) || eqb w (top f)
 
 -- ---- as a number
 
-same-test : (a b c d : ℕ) → (a ≡ b → c ≡ d) → (c ≡ d → a ≡ b) → eqb a b ≡ eqb c d
+pub same-test : (a b c d : ℕ) → (a ≡ b → c ≡ d) → (c ≡ d → a ≡ b) → eqb a b ≡ eqb c d
 same-test a b c d to back = go (eqb c d) refl
   where
     go : (s : Bool) → eqb c d ≡ s → eqb a b ≡ s

@@ -1,7 +1,7 @@
 -- IEEE 754's comparison as an order of words: of two words whose sign is clear and that are no NaN the lower one is the smaller number, and a word
 -- whose magnitude is no more than b is a number from -b to b. Assumes nothing.
 use Prim.Native.Nat.{ℕ, zero, suc, _+_, _*_, _^_, _≤_, _<_}
-use native.Mathlib.Nat.{le-trans, le-of-eq, le-of-lt, lt-of-le-of-lt, eq-or-lt-of-le, ne-of-lt, mod-eq-of-lt, mul-le-mul-right, mul-lt-mul-of-pos-right, div-lt-iff-lt-mul}
+use native.Mathlib.Nat.{le-trans, le-of-eq, le-of-lt, lt-of-le-of-lt, eq-or-lt-of-le, mod-eq-of-lt, mul-le-mul-right, mul-lt-mul-of-pos-right, div-lt-iff-lt-mul}
 use native.Mathlib.Omega.{arith}
 use mathlib.Core.Path.{_≡_, refl, sym, ap, _∙_}
 use mathlib.Core.Logic.{_⊎_, inl, inr}
@@ -9,17 +9,18 @@ use mathlib.Core.Bool.{Bool, true, false, not, _&&_, _||_, true≢false, false�
 use borrow.Author.Tests.{ltb-false, leb-false, lt-ltb, le-ltb, le-leb, lt-leb, eq-eqb, ne-eqb}
 use lib.Dec.{leb, ltb, eqb, eqb·zero-suc, eqb·suc-zero, lit<, lit≤}
 use lib.Pow.{pow-pos}
-use lib.Ieee.{Format, binary32, binary64, Float, nan, inf, fin, up, down, low, ones, top, below, level, lt, eq, le, isNan, ofBits, nanBits}
+use lib.Ieee.{Format, binary32, binary64, Float, nan, inf, fin, up, down, low, top, below, level, lt, eq, le, isNan, ofBits, nanBits}
 use lib.Ieee.Bits.{nanBits-is, nanBits-above}
 use lib.Ieee.Exact.{HasValue}
-use Rattle.format.specs.Fields.{negative, magnitude, exponent, infWord}
+use Rattle.format.specs.Fields.{negative, magnitude, infWord}
 use Rattle.format.specs.Sign.{turnedWord}
 use Rattle.format.specs.Value.{units, Finite}
 use Rattle.format.specs.Ordered.{Unsigned, NoLarger, Within}
 use Rattle.format.proofs.Fields.{hid-pos}
 use Rattle.format.proofs.Order.{either}
 use Rattle.format.proofs.Larger.{units-mono, units-strict}
-use Rattle.format.proofs.AtLeastZero.{inf-lt}
+use Rattle.format.proofs.Nan.{finite-number}
+use Rattle.format.proofs.AtLeastZero.{inf-lt, same-test}
 use Rattle.format.proofs.Normal.{below-top, finite-below}
 use Rattle.format.proofs.Sign.{turned-sign, turned-field, turned-units}
 use Rattle.format.proofs.Value.{word-value, lt-values}
@@ -40,15 +41,7 @@ module _ (a b : ℕ) where
 
 below-or-level : (s t : Bool) (a b : ℕ) → (below s a t b || level s a t b) ≡ not (below t b s a)
 below-or-level false false a b = same-sign a b
-below-or-level true true a b = ap (λ (e : Bool). ltb b a || (e && true)) (flip a b) ∙ same-sign b a
-  where
-    flip : (a b : ℕ) → eqb a b ≡ eqb b a
-    flip a b = go (either a b) (either b a)
-      where
-        go : (a ≤ b) ⊎ (b < a) → (b ≤ a) ⊎ (a < b) → eqb a b ≡ eqb b a
-        go (inl h) (inl k) = rw (eq-eqb a b (omega arith), eq-eqb b a (omega arith))
-        go (inl h) (inr k) = rw (ne-eqb a b (λ e. omega arith), ne-eqb b a (λ e. omega arith))
-        go (inr h) k = rw (ne-eqb a b (λ e. omega arith), ne-eqb b a (λ e. omega arith))
+below-or-level true true a b = ap (λ (e : Bool). ltb b a || (e && true)) (same-test a b b a sym sym) ∙ same-sign b a
 below-or-level false true zero zero = refl
 below-or-level false true zero (suc b) = rw (eqb·zero-suc b, lt-ltb 0 (suc b + 0) (omega arith))
 below-or-level false true (suc a) b = rw (eqb·suc-zero a, lt-ltb 0 (b + suc a) (omega arith)) (go (eqb (suc a) b))
@@ -75,16 +68,15 @@ not-below (fin s m e) (inf true) p q = refl
 not-below (fin s m e) (inf false) p q = refl
 not-below (fin s m e) (fin t n d) p q = below-or-level s t (m * up e * down d) (n * up d * down e)
 
-finite-number : (f : Format) (w : ℕ) → Finite f w → isNan (ofBits f w) ≡ false
-unfolding nanBits
-finite-number f w h = sym (nanBits-is f w) ∙ rw (ne-eqb (exponent f w) (ones f) (ne-of-lt h))
+read-number : (f : Format) (w : ℕ) → Finite f w → isNan (ofBits f w) ≡ false
+read-number f w h = sym (nanBits-is f w) ∙ finite-number f w h
 
 -- two finite words, by their signs and units
 pub compared-finite : (f : Format) (w v : ℕ) → Finite f w → Finite f v
     → le (ofBits f w) (ofBits f v) ≡ not (below (negative f v) (units f v * 2 ^ low f) (negative f w) (units f w * 2 ^ low f))
 compared-finite f w v h k =
     let c = pow-pos (low f) in
-    not-below (ofBits f w) (ofBits f v) (finite-number f w h) (finite-number f v k)
+    not-below (ofBits f w) (ofBits f v) (read-number f w h) (read-number f v k)
     ∙ ap not (lt-values (ofBits f v) (ofBits f w) (negative f v) (negative f w) (units f v) (2 ^ low f) (units f w) (2 ^ low f) c c (word-value f v k) (word-value f w h))
 
 -- ---- the sign clear, and no NaN

@@ -20,12 +20,12 @@ pub record Unsigned (f : Format) (w : ℕ) : Type 0 where
 abbrev pub Unwrapped : Format → ℕ → Type 0
 Unwrapped f w = w ≤ invMagic f
 
--- 2 ^ (i - j) as a normal number
+-- the number 2 ^ i / 2 ^ j, which is normal
 pub record Power (f : Format) (i j w : ℕ) : Type 0 where
   pub normal : Normal f w
   pub value : units f w * 2 ^ j ≡ 2 ^ i * 2 ^ low f
 
--- 2 ^ (2 * (i - j))
+-- 2 ^ (2 * k), for k = i - j
 abbrev pub EvenPower : Format → ℕ → ℕ → ℕ → Type 0
 EvenPower f i j = Power f (2 * i) (2 * j)
 
