@@ -5,7 +5,7 @@ use native.Mathlib.Nat.{le-refl, le-trans, le-of-eq, le-of-lt, le-of-suc-le-suc,
 use native.Mathlib.Omega.{arith}
 use mathlib.Core.Path.{_≡_, refl, sym, ap, subst, _∙_}
 use mathlib.Core.Logic.{_⊎_, inl, inr}
-use mathlib.Core.Bool.{Bool, true, false, not}
+use mathlib.Core.Bool.{Bool, true, false}
 use borrow.Author.Tests.{lt-ltb, le-ltb}
 use lib.Dec.{T, lit<, lit≤}
 use lib.Pow.{pow-pos, pow-add, pow-mono, shl-lt}
@@ -25,7 +25,7 @@ use Rattle.format.proofs.Same.{Counted}
 use Rattle.format.proofs.Value.{word-value, add-signed, sub-signed, add-values}
 use Rattle.float.specs.Engine.{ieee}
 use Rattle.float.specs.Cos.{centred}
-use Rattle.sizes.proofs.Size.{AtMost, round-at-most, apart-at-most}
+use Rattle.sizes.proofs.Size.{AtMost, round-at-most, units-apart}
 use Rattle.sizes.proofs.Words.{at-most-word}
 use Rattle.sizes.proofs.FloorUnits.{Down, Up, floor-up, rounded-down}
 use Rattle.sizes.proofs.Kept.{not-over, not-under, kept, kept-word}
@@ -55,15 +55,6 @@ far-up t n q some h = rw (turns-less-quarter n q) (omega (arith, mul-le-mul-righ
 
 far-down : (t n q : ℕ) → q < t → n * (4 * q) < t - q + 4 * q → (4 * n - 1) * q ≤ t + 2 * q
 far-down t n q l h = rw (turns-less-quarter n q) (omega arith)
-
--- ---- two numbers no more than a half apart
-
-less : (a b k : ℕ) → b ≤ a + k → b - a ≤ k
-less a b k h = omega arith
-
-beside : (s : Bool) (a b : ℕ) → a ≤ b + 2 ^ 148 → b ≤ a + 2 ^ 148 → AtMost binary32 0x3f00_0000 (sum binary32 s a (not s) b (2 ^ 149))
-beside s a b h k =
-    apart-at-most binary32 0x3f00_0000 s a b (2 ^ 149) (lit< tt) (pow-pos 149) (mul-le-mul-right (2 ^ 149) (less b a (2 ^ 148) h)) (mul-le-mul-right (2 ^ 149) (less a b (2 ^ 148) k))
 
 -- ---- a quarter and the whole turns
 
@@ -204,7 +195,7 @@ module _ (w : ℕ) (h : magnitude binary32 w ≤ 0x4a7f_fffe) where
     centred-plus : AtMost binary32 0x3f00_0000 (centred ieee (ofBits binary32 w))
     centred-plus =
         rw (a-is, sub-signed binary32 (ofBits binary32 w) _ false false u ((4 * N + 1) * 2 ^ 147) (2 ^ 149) (pow-pos 149) (rw s at (word-value binary32 w u-finite)) (quarter-and A-floor N-most))
-        (beside false u ((4 * N + 1) * 2 ^ 147) (up-to-half u N (2 ^ 147) upper) (down-to-half u N (2 ^ 147) lower))
+        (units-apart binary32 0x3f00_0000 false u ((4 * N + 1) * 2 ^ 147) (lit< tt) (up-to-half u N (2 ^ 147) upper) (down-to-half u N (2 ^ 147) lower))
 
   -- ---- below 0
 
@@ -282,7 +273,7 @@ module _ (w : ℕ) (h : magnitude binary32 w ≤ 0x4a7f_fffe) where
       centred-far : AtMost binary32 0x3f00_0000 (centred ieee (ofBits binary32 w))
       centred-far =
           rw (a₂-is, sub-signed binary32 (ofBits binary32 w) _ true true u ((4 * N₂ - 1) * 2 ^ 147) (2 ^ 149) (pow-pos 149) t-value (quarter-less-than A₂-floor N₂-some N₂-most))
-          (beside true u ((4 * N₂ - 1) * 2 ^ 147)
+          (units-apart binary32 0x3f00_0000 true u ((4 * N₂ - 1) * 2 ^ 147) (lit< tt)
           (far-up u N₂ (2 ^ 147) N₂-some (le-trans (le-of-eq (sym (A₂-is .count))) (A₂-floor .least)))
           (far-down u N₂ (2 ^ 147) far (lt-of-lt-of-le (A₂-floor .most) (le-of-eq (ap (λ (n : ℕ). n + 2 ^ 149) (A₂-is .count))))))
 

@@ -1,7 +1,7 @@
 -- cos and sin lie from -1 to 1, up to 2 ^ 22 turns: with t from -1/2 to 1/2 the parabola does not leave -1 and 1 by more than rounding takes back, and its
 -- mean with its own square is no larger than it. Assumes nothing.
 use Prim.Native.Nat.{ℕ, _+_, _-_, _*_, _/_, _^_, _≤_, _<_, zero-le}
-use native.Mathlib.Nat.{le-refl, le-trans, le-of-eq, le-of-lt, not-le-of-lt, eq-or-lt-of-le, mul-comm, mul-assoc, mul-left-comm, mul-mul-mul-comm, add-mul, le-add-left, mul-le-mul-right, mul-le-mul-left, le-of-mul-le-mul-right, mul-right-comm, mul-pos, sub-le, div-lt-iff-lt-mul}
+use native.Mathlib.Nat.{le-refl, le-trans, le-of-eq, le-of-lt, not-le-of-lt, eq-or-lt-of-le, mul-comm, mul-assoc, mul-left-comm, mul-mul-mul-comm, add-mul, le-add-left, le-add-right, mul-le-mul-right, mul-le-mul-left, le-of-mul-le-mul-right, mul-right-comm, mul-pos, sub-le, div-lt-iff-lt-mul}
 use native.Mathlib.Omega.{arith}
 use mathlib.Core.Path.{_≡_, refl, sym, ap, subst, _∙_}
 use mathlib.Core.Logic.{_⊎_, inl, inr}
@@ -31,7 +31,7 @@ use Rattle.float.specs.Engine.{ieee}
 use Rattle.float.specs.Cos.{turns, parabola, refined, cosWord, sinWord}
 use Rattle.sizes.specs.Angles.{CosTurns, SinTurns, WithinOne}
 use Rattle.sizes.proofs.Sign.{round-signed}
-use Rattle.sizes.proofs.Size.{AtMost, mul-at-most, mul-within, add-at-most, sub-at-most, apart-at-most, over-both, under}
+use Rattle.sizes.proofs.Size.{AtMost, mul-at-most, mul-within, add-at-most, sub-at-most, apart-at-most, units-apart, over-both, under}
 use Rattle.sizes.proofs.Words.{constant, own-at-most, word-at-most, at-most-word, abs-value}
 use Rattle.sizes.proofs.Kept.{kept-word}
 use Rattle.sizes.proofs.Centred.{centred-within}
@@ -77,14 +77,22 @@ opposed {f} {b} s {x = fin i m e} {y = fin j n g} t p q h k =
     (over (m * up e) (n * up g * down e) (units f b) (down e) (down g) (2 ^ low f) (h .small))
     (rw (mul-comm (down e) (down g)) (over (n * up g) (m * up e * down g) (units f b) (down g) (down e) (2 ^ low f) (k .small))))
 
--- |c| less 1 is below 0, or a zero
+-- 1, and 0.225
 abbrev one : Float
 one = ofBits binary32 0x3f80_0000
+
+abbrev share : Float
+share = ofBits binary32 0x3e66_6666
+
+share-plus : Signed false share
+unfolding ofBits
+share-plus = refl
 
 one-over : (d : ℕ) → HasValue one false d d
 unfolding ofBits
 one-over d = (refl, mul-comm 1 d)
 
+-- |c| less 1 is below 0, or a zero
 less-one : (c : Float) → AtMost binary32 0x3f80_0000 c → Signed true (sub binary32 (withSign false c) one) ⊎ AtMost binary32 0x0000_0000 (sub binary32 (withSign false c) one)
 unfolding sum
 less-one nan h = absurd (h .finite)
@@ -102,14 +110,6 @@ less-one (fin s m e) h =
         none : (x y : ℕ) → x ≤ y → (x - y) * 2 ^ 149 ≤ 0 * down e
         none x y l = le-trans (mul-le-mul-right (2 ^ 149) (let z : x - y ≤ 0 = omega arith in z)) zero-le
     go (inr l) = inl (rw (lt-ltb (m * up e) (down e) l) (round-has binary32 true (down e - m * up e) (down e)))
-
--- 0.225
-abbrev share : Float
-share = ofBits binary32 0x3e66_6666
-
-share-plus : Signed false share
-unfolding ofBits
-share-plus = refl
 
 pub refined-within : {c : Float} → T (fits binary32 c) → AtMost binary32 0x3f80_0000 c → AtMost binary32 0x3f80_0000 (refined ieee c)
 refined-within {c = nan} t h = absurd (h .finite)
@@ -166,12 +166,6 @@ size-value nan s a c v = absurd v
 size-value (inf i) s a c v = absurd v
 size-value (fin i m e) s a c v = (refl, v .1)
 
-left : (a b k : ℕ) → b ≤ a + k → b - a ≤ k
-left a b k h = omega arith
-
-none-left : (a b k : ℕ) → a ≤ b → a - b ≤ k
-none-left a b k h = omega arith
-
 -- where 1/2 - |t| is no more than q last places, of which 2 ^ 24 are 1/2
 bounded : (w q : ℕ) → Finite binary32 w → units binary32 w ≤ 2 ^ 148 → q ≤ 2 ^ 24 → 2 ^ 148 ≤ units binary32 w + q * 2 ^ 124
     → units binary32 w * (q * 2 ^ 128) ≤ (2 ^ 149 + 2 ^ 125) * 2 ^ 149 → AtMost binary32 0x3f80_0000 (parabola ieee (ofBits binary32 w))
@@ -184,9 +178,7 @@ bounded w q i small few reach product =
     let second = kept-word false q 128 few (lit≤ tt) in
     let less : AtMost binary32 b (sub binary32 (withSign false t) (ofBits binary32 0x3f00_0000)) =
     rw (sub-signed binary32 (withSign false t) (ofBits binary32 0x3f00_0000) false false u (2 ^ 148) (2 ^ 149) (pow-pos 149) (size-value t _ u (2 ^ 149) (word-value binary32 w i)) half-value)
-    (apart-at-most binary32 b false u (2 ^ 148) (2 ^ 149) (first .finite) (pow-pos 149)
-    (mul-le-mul-right (2 ^ 149) (none-left u (2 ^ 148) _ small))
-    (mul-le-mul-right (2 ^ 149) (rw (first .count) (left u (2 ^ 148) (q * 2 ^ 124) reach)))) in
+    (units-apart binary32 b false u (2 ^ 148) (first .finite) (le-trans small (le-add-right (2 ^ 148) (units binary32 b))) (rw (first .count) reach)) in
     let times : AtMost binary32 c (mul binary32 (ofBits binary32 0x4180_0000) (sub binary32 (withSign false t) (ofBits binary32 0x3f00_0000))) =
     mul-within c (constant binary32 0x4180_0000 tt) less (second .finite)
     (rw (first .count, second .count) (le-of-eq (mul-left-comm (2 ^ 153) q (2 ^ 124) ∙ sym (mul-assoc q (2 ^ 128) (2 ^ 149))))) in
