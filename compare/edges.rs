@@ -492,7 +492,7 @@ const LAST: &[Row] = &[
     ("sqrt", 0x3f80_0000, 0, Gives(0x3f80_0000)),
     ("sqrt", 0x7f00_0000, 0, Gives(0x5f40_0000)),
     ("sqrt", 0x0020_0000, 0, Refuses(9)),
-    // where the raw inverse is the last that is no less, and where it wraps
+    // where the raw inverse comes to 0, and the next word, where it wraps
     ("inv", 0x7eff_ffff, 0, Refuses(4)),
     ("inv", 0x7f00_0000, 0, Refuses(4)),
     ("inv", 0x7f00_0001, 0, Refuses(4)),

@@ -44,14 +44,14 @@ extern "C" {
  *
  * From sqrt to tan they are estimates, as they are in micromath: quick rather than close. sqrt may be some 6 percent too large
  * and inv, in size, 12.5; hypot of 3 and 4 is 5.125 here, and sqrt of 2 is 1.5. As x grows sqrt never falls, and above 0
- * invsqrt and inv never rise; of 2^(2k) sqrt is 2^k, exactly. inv of -x is that of x with the other sign, and so are atan and
- * atan_norm. atan is from -pi/2 to pi/2, atan_norm from -1 to 1, and so are cos and sin; each reaches its ends. ln of a number
- * below 1 is up to 0.118 off, and powf with it: ln of 0.99 is -0.0198 here for -0.01005, and 0.75 to 2 is 0.444 for 0.5625. A
- * power of powi that is too large is an infinity, and of an x under 0.5 in size it gives up early, with 0 or an infinity: 0.4
- * to 75 is 0. asin is up to 0.018 off and acos 0.029: asin of 0.1 is 0.0940 here for 0.1002, and acos of 0.75 is 0.743 for
- * 0.723. cos and sin are 0.0012 off at most, and so is tan while it is 1 at most in size; it is further off the steeper it
- * gets: of 1.5 it is 14.24 for 14.10 and of 1.57 1273 for 1256, and at the steepest angles even its sign may be wrong. Of an
- * angle under 0.00000005 in size it is 0, without the sign.
+ * invsqrt and inv never rise; of 2^(2k) sqrt is 2^k, exactly. inv, atan and atan_norm of -x are those of x with the other sign.
+ * atan_norm, cos and sin are from -1 to 1, and atan from 0xbfc90fdb to 0x3fc90fdb, the floats of -pi/2 and pi/2; each reaches
+ * its ends. ln of a number below 1 is up to 0.118 off, and powf with it: ln of 0.99 is -0.0198 here for -0.01005, and 0.75 to 2
+ * is 0.444 for 0.5625. A power of powi that is too large is an infinity, and of an x under 0.5 in size it gives up early, with
+ * 0 or an infinity: 0.4 to 75 is 0. asin is up to 0.018 off and acos 0.029: asin of 0.1 is 0.0940 here for 0.1002, and acos of
+ * 0.75 is 0.743 for 0.723. cos and sin are 0.0012 off at most, and so is tan while it is 1 at most in size; it is further off
+ * the steeper it gets: of 1.5 it is 14.24 for 14.10 and of 1.57 1273 for 1256, and at the steepest angles even its sign may be
+ * wrong. Of an angle under 0.00000005 in size it is 0, without the sign.
  *
  * rem_euclid and div_euclid are no estimates. Of an x that is not below 0 rem_euclid is exact. Of one below 0 it is rounded
  * once, and may be |y| itself: -1e-45 by 1 leaves 1. -0 leaves -0, and so does an x below 0 that y divides. div_euclid counts

@@ -9,13 +9,20 @@ static uint32_t raw(uint32_t op, uint32_t a)
     return dampmeadow_word_of(dampmeadow_words(DAMPMEADOW_RAW + op, a, 0));
 }
 
-/* A word of a raw kernel and the one for the next word that is tried, up to `last`: as words and as floats they are in order. */
+/* A raw kernel's answers to a word and to a higher one: as words and as floats they are in order. */
+static void pair(const char *what, uint32_t op, uint32_t a, uint32_t b, int rises)
+{
+    const uint32_t lower = raw(op, rises ? a : b), upper = raw(op, rises ? b : a);
+    hold(what, lower <= upper && dampmeadow_float(lower) <= dampmeadow_float(upper), 1);
+}
+
+/* The same of words up to `last`, each beside the one next to it and the next that is tried. */
 static void ordered(const char *what, uint32_t op, uint32_t last, int rises)
 {
     for (uint32_t a = 0; a < last;) {
         const uint32_t b = last - a > 65521 ? a + 65521 : last;
-        const uint32_t lower = raw(op, rises ? a : b), upper = raw(op, rises ? b : a);
-        hold(what, lower <= upper && dampmeadow_float(lower) <= dampmeadow_float(upper), 1);
+        pair(what, op, a, a + 1, rises);
+        pair(what, op, a, b, rises);
         a = b;
     }
 }
@@ -51,7 +58,9 @@ void order(void)
     within("raw cos", raw_cos, 0x4bc90fdb, 0x3f800000, 0);
     within("raw sin", raw_sin, 0x4bc90fda, 0x3f800000, 0);
     within("atan_norm without floats", dampmeadow_soft_atan_norm, 0x5f7fffff, 0x3f800000, 1);
+    within("atan without floats", dampmeadow_soft_atan, 0x5f7fffff, 0x3fc90fdb, 1);
     within("cos without floats", dampmeadow_soft_cos, 0x4bc90fdb, 0x3f800000, 0);
+    within("sin without floats", dampmeadow_soft_sin, 0x4bc90fda, 0x3f800000, 0);
     /* the ends are reached, and the next words are past them */
     hold("atan_norm of 5f7fffff", dampmeadow_atan_norm_guarded(0x5f7fffff), 0x3f800000);
     hold("atan_norm of df7fffff", dampmeadow_atan_norm_guarded(0xdf7fffff), 0xbf800000);

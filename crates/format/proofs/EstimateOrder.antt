@@ -4,8 +4,8 @@ use Prim.Native.Nat.{ℕ, _+_, _-_, _*_, _/_, _^_, _≤_, _<_}
 use native.Mathlib.Nat.{mod-eq-of-lt, le-trans, le-of-lt}
 use native.Mathlib.Omega.{arith}
 use mathlib.Core.Path.{_≡_, refl, sym, _∙_}
-use mathlib.Core.Bool.{true}
-use borrow.Author.Tests.{leb-true}
+use mathlib.Core.Bool.{true, false}
+use borrow.Author.Tests.{leb-true, lt-leb}
 use lib.Dec.{lit<, lit≤}
 use lib.Ieee.{Format, binary32, binary64, hid, top, le, lt, eq, ofBits}
 use Rattle.format.specs.Fields.{width, infWord, oneWord}
@@ -13,7 +13,7 @@ use Rattle.format.specs.Estimates.{sqrtWord, invMagic, invWord, invsqrtM
 use Rattle.format.specs.Ordered.{Unsigned, Unwrapped, NoLarger, OddAt}
 use Rattle.format.proofs.Order.{no-wrap}
 use Rattle.format.proofs.AtLeastZero.{up-to-infinity}
-use Rattle.format.proofs.Compared.{to-infinity, order-of-words, no-larger}
+use Rattle.format.proofs.Compared.{to-infinity, from-infinity, order-of-words, no-larger}
 use Rattle.format.proofs.Sqrt.{sum-fits}
 use Rattle.format.proofs.Inv.{magic-below, magic-fits, inv-sign}
 
@@ -43,7 +43,7 @@ sqrt-keeps-order f w v u h =
 pub sqrt-rises : (f : Format) (w v : ℕ) → Unsigned f w → Unsigned f v → le (ofBits f w) (ofBits f v) ≡ true → NoLarger f (sqrtWord f w) (sqrtWord f v)
 sqrt-rises f w v p q h = sqrt-keeps-order f w v q (leb-true w v (sym (order-of-words f w v p q) ∙ h))
 
--- it does not always rise, as from +0 to the number next to it; and past the infinity it falls, from a NaN to -0
+-- it does not always rise, as from +0 to the number next to it; and past the infinity the answers' words fall, from a NaN's root to that of -0
 pub sqrt-rests : sqrtWord binary32 0x0000_0000 ≡ sqrtWord binary32 0x0000_0001
 unfolding le lt eq ofBits
 sqrt-rests = refl
@@ -73,11 +73,13 @@ inv-turns-order f w v u h =
     let i : Unwrapped f w = le-trans h u in
     no-larger f (invWord f v) (invWord f w) (rw (inv-answer f v u, inv-answer f w i) (omega arith)) (rw (inv-answer f w i) (omega (arith, magic-below f)))
 
--- it never rests
-pub inv-apart : (f : Format) (w v : ℕ) → Unwrapped f v → w < v → invWord f v < invWord f w
+-- it never rests, as words and as numbers
+pub inv-apart : (f : Format) (w v : ℕ) → Unwrapped f v → w < v → (invWord f v < invWord f w) × (le (ofBits f (invWord f w)) (ofBits f (invWord f v)) ≡ false)
 inv-apart f w v u h =
     let i : Unwrapped f w = le-trans (le-of-lt h) u in
-    rw (inv-answer f v u, inv-answer f w i) (omega arith)
+    let apart : invWord f v < invWord f w = rw (inv-answer f v u, inv-answer f w i) (omega arith) in
+    let unsigned : (x : ℕ) → Unwrapped f x → Unsigned f (invWord f x) = λ x k. from-infinity f (invWord f x) (rw (inv-answer f x k) (omega (arith, magic-below f))) in
+    (apart, order-of-words f (invWord f w) (invWord f v) (unsigned w i) (unsigned v u) ∙ lt-leb (invWord f w) (invWord f v) apart)
 
 -- past 2 ^ 127 the subtraction wraps: from 0 to the last word of all, a NaN
 pub inv-wraps : (invWord binary32 0x7f00_0000 ≡ 0x0000_0000) × (invWord binary32 0x7f00_0001 ≡ 0xffff_ffff)

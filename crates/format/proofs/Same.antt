@@ -66,7 +66,7 @@ pub record Counted (f : Format) (s : Bool) (n r : ℕ) : Type 0 where
 
 -- a count of few digits and within the range is rounded to itself, and its word has it
 module _ (f : Format) (s : Bool) (q j : ℕ) (few : q < 2 ^ prec f) (fine : q * 2 ^ j < 2 ^ (low f + suc (emax f))) where
-  held : HasValue (round f s (q * 2 ^ j) (2 ^ low f)) s (q * 2 ^ j) (2 ^ low f)
+  pub held : HasValue (round f s (q * 2 ^ j) (2 ^ low f)) s (q * 2 ^ j) (2 ^ low f)
   held = round-exact f s (q * 2 ^ j) (2 ^ low f) q j (pow-pos (low f)) few fine refl
 
   pub count-written : toBits f (round f s (q * 2 ^ j) (2 ^ low f)) ≡ signBit f s + written f (q * 2 ^ j)

@@ -53,7 +53,7 @@ weighed n h s b x v k p c ex ev ek r =
 abbrev pub middle : Format → ℕ
 middle f = emax f / 2
 
-pub one-is : (f : Format) → oneWord f ≡ suc (2 * middle f) * hid f
+one-is : (f : Format) → oneWord f ≡ suc (2 * middle f) * hid f
 one-is binary32 = refl
 one-is binary64 = refl
 

@@ -1,5 +1,5 @@
 -- sqrt is exact at each normal even power of two: the root of 2 ^ (2 * k) is 2 ^ k. Assumes nothing.
-use Prim.Native.Nat.{ℕ, suc, _+_, _-_, _*_, _/_, _^_, _≤_, _<_}
+use Prim.Native.Nat.{ℕ, suc, _+_, _*_, _/_, _^_, _≤_, _<_}
 use native.Mathlib.Nat.{le-trans, le-of-eq, le-antisymm, mul-le-mul, mul-le-mul-right, mul-pos, mul-lt-mul-of-pos-right, mul-mul-mul-comm, add-zero, eq-of-mul-eq-mul-right, two-mul, pow-succ'}
 use native.Mathlib.Omega.{arith}
 use mathlib.Core.Path.{_≡_, refl, sym, ap, _∙_}
@@ -48,8 +48,8 @@ module _ (h s a b : ℕ) (H : 0 < h) (least : h ≤ s) (most : s < 4 * h) (e : s
       go (inl k) (inr l) = absurd (not-less l)
       go (inr k) l = absurd (not-more k)
 
-  same-digits : s ≡ h
-  same-digits = eq-of-mul-eq-mul-right (2 ^ a * 2 ^ a) (mul-pos (pow-pos a) (pow-pos a)) s h (e ∙ ap (λ (k : ℕ). h * (2 ^ k * 2 ^ k)) (sym same-power))
+  same-both : (a ≡ b) × (s ≡ h)
+  same-both = (same-power, eq-of-mul-eq-mul-right (2 ^ a * 2 ^ a) (mul-pos (pow-pos a) (pow-pos a)) s h (e ∙ ap (λ (k : ℕ). h * (2 ^ k * 2 ^ k)) (sym same-power)))
 
 -- an even power's units, over squares
 by-squares : (f : Format) (i j w : ℕ) → EvenPower f i j w → units f w * (2 ^ j * 2 ^ j) ≡ 2 ^ i * 2 ^ i * 2 ^ low f
@@ -74,12 +74,10 @@ module _ (f : Format) (i j w : ℕ) (p : EvenPower f i j w) where
     where
       go : ByTwos f w → Even
       go (inl (l, x)) =
-          let e = from-digits (hid f + rest f w) x in
-          let d = same-digits (hid f) (hid f + rest f w) (pairs f w + j) (i + middle f) (hid-pos f) (omega arith) (omega (arith, hid-pos f)) e in
-          record { field = same-power (hid f) (hid f + rest f w) (pairs f w + j) (i + middle f) (hid-pos f) (omega arith) (omega (arith, hid-pos f)) e; over = omega arith }
+          let d = same-both (hid f) (hid f + rest f w) (pairs f w + j) (i + middle f) (hid-pos f) (omega arith) (omega (arith, hid-pos f)) (from-digits (hid f + rest f w) x) in
+          record { field = d .0; over = omega arith }
       go (inr (l, x)) =
-          let e = from-digits (2 * rest f w) x in
-          let d = same-digits (hid f) (2 * rest f w) (pairs f w + j) (i + middle f) (hid-pos f) (omega arith) (omega (arith, rest-lt f w)) e in
+          let d = same-both (hid f) (2 * rest f w) (pairs f w + j) (i + middle f) (hid-pos f) (omega arith) (omega (arith, rest-lt f w)) (from-digits (2 * rest f w) x) in
           absurd (let z : ⊥ = omega (arith, hid-pos f) in z)
 
   root-is : sqrtWord f w ≡ suc (pairs f w + middle f) * hid f + 0
@@ -119,7 +117,12 @@ roots = (refl, refl)
 
 -- the same words are even powers
 pub even-powers : EvenPower binary32 0 63 0x0080_0000 × EvenPower binary32 63 0 0x7e80_0000 × EvenPower binary32 0 0 0x3f80_0000 × EvenPower binary32 1 0 0x4080_0000
+    × EvenPower binary64 0 511 0x0010_0000_0000_0000 × EvenPower binary64 511 0 0x7fd0_0000_0000_0000 × EvenPower binary64 0 0 0x3ff0_0000_0000_0000 × EvenPower binary64 1 0 0x4010_0000_0000_0000
 even-powers = (
+  record { normal = record { above = lit≤ tt; below = lit< tt }; value = refl },
+  record { normal = record { above = lit≤ tt; below = lit< tt }; value = refl },
+  record { normal = record { above = lit≤ tt; below = lit< tt }; value = refl },
+  record { normal = record { above = lit≤ tt; below = lit< tt }; value = refl },
   record { normal = record { above = lit≤ tt; below = lit< tt }; value = refl },
   record { normal = record { above = lit≤ tt; below = lit< tt }; value = refl },
   record { normal = record { above = lit≤ tt; below = lit< tt }; value = refl },

@@ -1,5 +1,5 @@
 -- atan_norm and atan are odd to the bit below 2 ^ 64, and lie from -1 to 1 and from -PI / 2 to PI / 2: the quotient does not see the sign, which is put
--- on it as a bit, and what is below its line is as large as what is above. Assumes nothing.
+-- on it as a bit, and what is below its line is no smaller than what is above. Assumes nothing.
 use Prim.Native.Nat.{ℕ, _+_, _*_, _^_, _≤_, _<_, zero-le}
 use native.Mathlib.Nat.{le-of-eq, mul-comm, zero-mul, div-lt-iff-lt-mul}
 use native.Mathlib.Omega.{arith}
@@ -27,6 +27,7 @@ use Rattle.sizes.specs.Angles.{Under64, WithinOne, WithinQuarter}
 use Rattle.sizes.proofs.Sign.{product-size, square-size, product-turned}
 use Rattle.sizes.proofs.Size.{AtMost, AtLeast, NotNegative, mul-at-most, div-within, add-not-negative, add-at-least-right, not-zero, round-not-negative}
 use Rattle.sizes.proofs.Words.{constant, word-at-most, own-at-most, own-at-least, at-most-number, number-word, abs-value, at-most-word, sign-word}
+use Rattle.sizes.proofs.Quotient.{bottom}
 use Rattle.sizes.proofs.Atan.{one-not-negative, bent, bent-plus, square-plus, above-at-most, below-at-least}
 
 -- ---- the quotient does not see the sign
@@ -66,7 +67,7 @@ module _ (w : ℕ) (h : magnitude binary32 w < 0x5f80_0000) where
   n = add binary32 (bent w h) (mul binary32 x x)
 
   abbrev d : Float
-  d = add binary32 (add binary32 (ofBits binary32 0x3f80_0000) (bent w h)) n
+  d = bottom one-not-negative (bent-plus w h) (square-plus w h)
 
   n-plus : NotNegative n
   n-plus = add-not-negative binary32 (bent-plus w h) (square-plus w h)
@@ -74,7 +75,7 @@ module _ (w : ℕ) (h : magnitude binary32 w < 0x5f80_0000) where
   first-plus : NotNegative (add binary32 (ofBits binary32 0x3f80_0000) (bent w h))
   first-plus = add-not-negative binary32 one-not-negative (bent-plus w h)
 
-  -- what is above the line is a word, and what is below it is as large as that
+  -- what is above the line is a word's number, and what is below it is no smaller
   abbrev N : ℕ
   N = toBits binary32 n
 

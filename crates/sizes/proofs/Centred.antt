@@ -285,7 +285,7 @@ module _ (w : ℕ) (h : magnitude binary32 w ≤ 0x4a7f_fffe) where
       go true s (inl near) = centred-near s near
       go true s (inr far) = centred-far s far
 
--- ---- the last two words of either sign, at which the quarter is lost
+-- ---- the last two words of either sign: of those above 0 a quarter is lost beside 2 ^ 22
 
 last : (s : Bool) (m : ℕ) → (m ≡ 0x4a7f_ffff) ⊎ (m ≡ 0x4a80_0000) → AtMost binary32 0x3f00_0000 (centred ieee (ofBits binary32 (signBit binary32 s + m)))
 unfolding add sub lt ofInt toSigned ofBits toBits

@@ -1,16 +1,16 @@
--- cos and sin lie from -1 to 1, up to 2 ^ 22 turns: with t from -1/2 to 1/2 the parabola does not leave -1 and 1 by more than rounding takes back, and its
--- mean with its own square is no larger than it. Assumes nothing.
+-- cos and sin lie from -1 to 1, up to 2 ^ 22 turns: with t from -1/2 to 1/2 the parabola does not leave -1 and 1 by more than rounding takes back, and then
+-- its mean with its own square does not either. Assumes nothing.
 use Prim.Native.Nat.{ℕ, _+_, _-_, _*_, _/_, _^_, _≤_, _<_, zero-le}
 use native.Mathlib.Nat.{le-refl, le-trans, le-of-eq, le-of-lt, not-le-of-lt, eq-or-lt-of-le, mul-comm, mul-assoc, mul-left-comm, mul-mul-mul-comm, add-mul, le-add-left, le-add-right, mul-le-mul-right, mul-le-mul-left, le-of-mul-le-mul-right, mul-right-comm, mul-pos, sub-le, div-lt-iff-lt-mul}
 use native.Mathlib.Omega.{arith}
 use mathlib.Core.Path.{_≡_, refl, sym, ap, subst, _∙_}
 use mathlib.Core.Logic.{_⊎_, inl, inr}
-use mathlib.Core.Bool.{Bool, true, false, not, true≢false}
+use mathlib.Core.Bool.{Bool, true, false, not}
 use mathlib.Core.List.{[], _∷_, map}
 use borrow.Author.Tests.{lt-ltb}
 use lib.Dec.{T, lit<, lit≤}
 use lib.Pow.{pow-pos}
-use lib.Ieee.{Format, Float, nan, inf, fin, binary32, unlike, up, down, low, le, lt, round, sum, add, sub, mul, isNan, fits, ofInt, toSigned, ofBits, toBits}
+use lib.Ieee.{Format, Float, nan, inf, fin, binary32, unlike, up, down, low, le, lt, round, sum, add, sub, mul, fits, ofInt, toSigned, ofBits, toBits}
 use lib.Ieee.Bits.{ofBits-toBits, ofBits-fits}
 use lib.Ieee.Exact.{HasValue}
 use lib.Ieee.Fits.{add-fits, sub-fits, mul-fits, down-pos}
@@ -24,34 +24,18 @@ use Rattle.format.proofs.Sign.{abs-is}
 use Rattle.format.proofs.Order.{either, squares}
 use Rattle.format.proofs.Larger.{units-mono}
 use Rattle.format.proofs.Normal.{twice-units}
-use Rattle.format.proofs.Whole.{round-no-nan}
 use Rattle.format.proofs.Value.{word-value, sub-signed}
 use Rattle.format.proofs.Compared.{within}
 use Rattle.float.specs.Engine.{ieee}
 use Rattle.float.specs.Cos.{turns, parabola, refined, cosWord, sinWord}
 use Rattle.sizes.specs.Angles.{CosTurns, SinTurns, WithinOne}
 use Rattle.sizes.proofs.Sign.{round-signed}
-use Rattle.sizes.proofs.Size.{AtMost, mul-at-most, mul-within, add-at-most, sub-at-most, apart-at-most, units-apart, over-both, under}
+use Rattle.sizes.proofs.Size.{AtMost, Signed, round-has, mul-at-most, mul-within, add-at-most, sub-at-most, apart-at-most, units-apart, over-both, under}
 use Rattle.sizes.proofs.Words.{constant, own-at-most, word-at-most, at-most-word, abs-value}
 use Rattle.sizes.proofs.Kept.{kept-word}
 use Rattle.sizes.proofs.Centred.{centred-within}
 
 -- ---- the mean with the square: what is added to c has the other sign, and is no larger than 1
-
--- a number's sign; a NaN has none
-abbrev Signed : Bool → Float → Type 0
-Signed s nan = ⊥
-Signed s (inf t) = t ≡ s
-Signed s (fin t m e) = t ≡ s
-
-signed-with : (s : Bool) (x : Float) → isNan x ≡ false → Signed s (withSign s x)
-unfolding isNan
-signed-with s nan n = absurd (true≢false n)
-signed-with s (inf t) n = refl
-signed-with s (fin t m e) n = refl
-
-round-has : (f : Format) (s : Bool) (a c : ℕ) → Signed s (round f s a c)
-round-has f s a c = subst (Signed s) (round-signed f s s a c) (signed-with s (round f s a c) (round-no-nan f s a c))
 
 mul-has : (f : Format) (s t : Bool) (x y : Float) → T (finite x) → T (finite y) → Signed s x → Signed t y → Signed (unlike s t) (mul f x y)
 unfolding mul

@@ -1,4 +1,4 @@
--- The floor by its units, 2 ^ 149 of which are 1: how many whole ones it is, and that one more would be too many. Assumes nothing.
+-- The floor by its units, 2 ^ 149 of which are 1: how many whole ones it is, and that it is the nearest one on that side. Assumes nothing.
 use Prim.Native.Nat.{ℕ, zero, suc, _+_, _*_, _/_, _%_, _^_, _≤_, _<_, zero-le}
 use native.Mathlib.Nat.{le-trans, le-of-eq, lt-irrefl, zero-mul, suc-mul, add-zero, le-of-mul-le-mul-right, div-add-mod', mul-le-mul-right}
 use native.Mathlib.Omega.{arith}

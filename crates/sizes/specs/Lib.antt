@@ -1,2 +1,2 @@
--- Which words the shape of the angles is told of, and between which numbers their answers lie.
+-- Which words the laws of the angles are about, and between which numbers their answers lie.
 pub mod Angles
