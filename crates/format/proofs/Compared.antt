@@ -1,7 +1,7 @@
 -- IEEE 754's comparison as an order of words: of two words whose sign is clear and that are no NaN the lower one is the smaller number, and a word
 -- whose magnitude is no more than b is a number from -b to b. Assumes nothing.
 use Prim.Native.Nat.{ℕ, zero, suc, _+_, _*_, _^_, _≤_, _<_}
-use native.Mathlib.Nat.{le-trans, le-of-eq, le-of-lt, lt-of-le-of-lt, eq-or-lt-of-le, mod-eq-of-lt, mul-le-mul-right, mul-lt-mul-of-pos-right, div-lt-iff-lt-mul}
+use native.Mathlib.Nat.{le-trans, le-of-eq, le-of-lt, lt-of-le-of-lt, eq-or-lt-of-le, mod-eq-of-lt, mul-le-mul-right, div-lt-iff-lt-mul}
 use native.Mathlib.Omega.{arith}
 use mathlib.Core.Path.{_≡_, refl, sym, ap, _∙_}
 use mathlib.Core.Logic.{_⊎_, inl, inr}
@@ -17,8 +17,8 @@ use Rattle.format.specs.Sign.{turnedWord}
 use Rattle.format.specs.Value.{units, Finite}
 use Rattle.format.specs.Ordered.{Unsigned, NoLarger, Within}
 use Rattle.format.proofs.Fields.{hid-pos}
-use Rattle.format.proofs.Order.{either}
-use Rattle.format.proofs.Larger.{units-mono, units-strict}
+use Rattle.format.proofs.Order.{either, leb-is}
+use Rattle.format.proofs.Larger.{units-mono, units-test}
 use Rattle.format.proofs.Nan.{finite-number}
 use Rattle.format.proofs.AtLeastZero.{inf-lt, same-test}
 use Rattle.format.proofs.Normal.{below-top, finite-below}
@@ -105,14 +105,9 @@ module _ (f : Format) (w v : ℕ) (w-below : w < infWord f) (v-below : v < infWo
       rw (lt-leb (top f) v (below-top f v v-below), lt-leb (top f) w (below-top f w w-below)) at (compared-finite f w v (finite-below f w w-below) (finite-below f v v-below))
 
   numbers : le (ofBits f w) (ofBits f v) ≡ leb w v
-  numbers = go (either w v)
-    where
-      sizes : (x : ℕ) → x < infWord f → magnitude f x ≡ x
-      sizes x h = mod-eq-of-lt (below-top f x h)
-
-      go : (w ≤ v) ⊎ (v < w) → le (ofBits f w) (ofBits f v) ≡ leb w v
-      go (inl h) = signs ∙ rw (le-ltb (units f v * 2 ^ low f) (units f w * 2 ^ low f) (mul-le-mul-right (2 ^ low f) (units-mono f w v (rw (sizes w w-below, sizes v v-below) h))), le-leb w v h)
-      go (inr h) = signs ∙ rw (lt-ltb (units f v * 2 ^ low f) (units f w * 2 ^ low f) (mul-lt-mul-of-pos-right (units-strict f v w (rw (sizes v v-below, sizes w w-below) h)) (pow-pos (low f))), lt-leb w v h)
+  numbers =
+      signs ∙ ap not (units-test f v w (2 ^ low f) (pow-pos (low f)))
+      ∙ rw (mod-eq-of-lt (below-top f v v-below), mod-eq-of-lt (below-top f w w-below)) (sym (leb-is w v))
 
 below-infinity : (x : Float) → isNan x ≡ false → le x (inf false) ≡ true
 unfolding le lt eq isNan

@@ -2,8 +2,11 @@
 use Prim.Native.Nat.{ℕ, zero, suc, _+_, _*_, _/_, _%_, _^_, _≤_, _<_}
 use native.Mathlib.Nat.{le-trans, le-of-eq, le-of-lt, le-of-suc-le-suc, lt-of-lt-of-le, eq-or-lt-of-le, not-le-of-lt, mul-one, mul-le-mul-right, mul-le-mul-left, mul-lt-mul-of-pos-right, le-add-right, pow-succ'}
 use native.Mathlib.Omega.{arith}
-use mathlib.Core.Path.{_≡_, sym, ap, _∙_}
+use mathlib.Core.Path.{_≡_, refl, sym, ap, _∙_}
 use mathlib.Core.Logic.{_⊎_, inl, inr}
+use mathlib.Core.Bool.{Bool, true, false}
+use borrow.Author.Tests.{ltb-true, ltb-false, lt-ltb, le-ltb}
+use lib.Dec.{ltb}
 use lib.Pow.{pow-pos, pow-mono}
 use lib.Ieee.{Format, hid}
 use Rattle.format.specs.Fields.{magnitude, exponent, fraction}
@@ -51,3 +54,11 @@ units-mono f w v h = elim (eq-or-lt-of-le h) [
 
 pub magnitude-mono : (f : Format) (w v : ℕ) → units f w ≤ units f v → magnitude f w ≤ magnitude f v
 magnitude-mono f w v h = elim (either (magnitude f w) (magnitude f v)) [ inl l ↦ l | inr g ↦ absurd (not-le-of-lt (units-strict f v w g) h) ]
+
+-- so the test of one is that of the other, in any measure
+pub units-test : (f : Format) (w v c : ℕ) → 0 < c → ltb (units f w * c) (units f v * c) ≡ ltb (magnitude f w) (magnitude f v)
+units-test f w v c h = go (ltb (magnitude f w) (magnitude f v)) refl
+  where
+    go : (t : Bool) → ltb (magnitude f w) (magnitude f v) ≡ t → ltb (units f w * c) (units f v * c) ≡ t
+    go true e = lt-ltb (units f w * c) (units f v * c) (mul-lt-mul-of-pos-right (units-strict f w v (ltb-true (magnitude f w) (magnitude f v) e)) h)
+    go false e = le-ltb (units f w * c) (units f v * c) (mul-le-mul-right c (units-mono f v w (ltb-false (magnitude f w) (magnitude f v) e)))

@@ -3,11 +3,11 @@
 use Prim.Native.Nat.{ℕ, _+_, _-_, _*_, _%_, _≤_, _<_}
 use native.Mathlib.Nat.{le-of-lt, le-dest, add-sub-assoc, add-mod-left, mod-eq-of-lt, mul-comm, mul-sub}
 use native.Mathlib.Omega.{arith}
-use mathlib.Core.Path.{_≡_, refl, sym, _∙_}
+use mathlib.Core.Path.{_≡_, refl, sym, ap, _∙_}
 use mathlib.Core.Logic.{_⊎_, inl, inr}
-use mathlib.Core.Bool.{Bool, true, false}
-use borrow.Author.Tests.{leb-true, leb-false}
-use lib.Dec.{leb}
+use mathlib.Core.Bool.{Bool, true, false, not}
+use borrow.Author.Tests.{leb-true, leb-false, lt-ltb, le-ltb}
+use lib.Dec.{leb, ltb}
 
 pub either : (a b : ℕ) → (a ≤ b) ⊎ (b < a)
 either a b = by-test (leb a b) refl
@@ -15,6 +15,14 @@ either a b = by-test (leb a b) refl
     by-test : (s : Bool) → leb a b ≡ s → (a ≤ b) ⊎ (b < a)
     by-test true e = inl (leb-true a b e)
     by-test false e = inr (leb-false a b e)
+
+-- one test by the other
+pub leb-is : (a b : ℕ) → leb a b ≡ not (ltb b a)
+leb-is a b = go (leb a b) refl
+  where
+    go : (t : Bool) → leb a b ≡ t → t ≡ not (ltb b a)
+    go true e = sym (ap not (le-ltb b a (leb-true a b e)))
+    go false e = sym (ap not (lt-ltb b a (leb-false a b e)))
 
 pub rearranged : {a b c d : ℕ} → a ≤ b → c ≤ d → a * d + b * c ≤ a * c + b * d
 rearranged h k = rw (sym (le-dest h .1), sym (le-dest k .1)) (omega arith)

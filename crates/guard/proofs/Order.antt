@@ -1,7 +1,7 @@
 -- The gate test as numbers: words stand in the order of the numbers that they are, but that -0 stands just below +0; so what passes a gate
 -- is no number below its low end, and none above its high end, but for the one word that is judged the other way. Assumes nothing.
 use Prim.Native.Nat.{ℕ, zero, suc, _+_, _-_, _*_, _^_, _≤_, _<_}
-use native.Mathlib.Nat.{lt-irrefl, not-le-of-lt, mul-le-mul-right, mul-lt-mul-of-pos-right}
+use native.Mathlib.Nat.{lt-irrefl, mul-le-mul-right}
 use native.Mathlib.Omega.{arith}
 use mathlib.Core.Path.{_≡_, refl, sym, ap, _∙_}
 use mathlib.Core.Logic.{inl, inr}
@@ -11,7 +11,7 @@ use borrow.Author.Tests.{leb-true, leb-false, ltb-true, ltb-false, lt-ltb, le-lt
 use lib.Dec.{leb, ltb, eqb, lit<}
 use lib.ListN.{getD}
 use lib.Pow.{pow-pos}
-use lib.Ieee.{Format, binary32, ones, top, unlike, lt, below, ofBits}
+use lib.Ieee.{binary32, ones, top, unlike, lt, below, ofBits}
 use lib.Ieee as Ieee
 use lib.Ieee.Bits.{toBits-lt}
 use lib.Ieee.Fits.{mul-fits}
@@ -20,8 +20,8 @@ use Rattle.format.specs.Value.{units, Finite}
 use Rattle.format.specs.Classes.{isZero}
 use Rattle.format.proofs.Fields.{magnitude-lt, sign-and-magnitude}
 use Rattle.format.proofs.Value.{word-value, lt-values}
-use Rattle.format.proofs.Order.{either}
-use Rattle.format.proofs.Larger.{units-mono, magnitude-mono}
+use Rattle.format.proofs.Order.{either, leb-is}
+use Rattle.format.proofs.Larger.{magnitude-mono, units-test}
 use Rattle.float.specs.Engine.{ieee}
 use Rattle.float.specs.Cos.{cosWord}
 use Rattle.float.specs.Powf.{productWord}
@@ -39,26 +39,6 @@ same-test a b c d h k = go (ltb c d) refl
     go : (t : Bool) → ltb c d ≡ t → ltb a b ≡ t
     go true e = lt-ltb a b (h (ltb-true c d e))
     go false e = le-ltb a b (k (ltb-false c d e))
-
-leb-is : (a b : ℕ) → leb a b ≡ not (ltb b a)
-leb-is a b = go (leb a b) refl
-  where
-    go : (t : Bool) → leb a b ≡ t → t ≡ not (ltb b a)
-    go true e = sym (ap not (le-ltb b a (leb-true a b e)))
-    go false e = sym (ap not (lt-ltb b a (leb-false a b e)))
-
--- of two words the one with the larger magnitude has more units, in any measure
-units-test : (f : Format) (v w c : ℕ) → 0 < c → ltb (magnitude f v) (magnitude f w) ≡ ltb (units f v * c) (units f w * c)
-units-test f v w c h = sym (same-test (units f v * c) (units f w * c) (magnitude f v) (magnitude f w) more less)
-  where
-    more : magnitude f v < magnitude f w → units f v * c < units f w * c
-    more l = elim (either (units f w) (units f v)) [
-      | inl g ↦ absurd (not-le-of-lt l (magnitude-mono f w v g))
-      | inr g ↦ mul-lt-mul-of-pos-right g h
-    ]
-
-    less : magnitude f w ≤ magnitude f v → units f w * c ≤ units f v * c
-    less l = mul-le-mul-right c (units-mono f w v l)
 
 -- ---- the order of words
 
@@ -89,7 +69,7 @@ module _ (v w : ℕ) (v-word : v < 2 ^ 32) (w-word : w < 2 ^ 32) where
   by-signs false false p q apart c h =
       let m = signed v false v-word p in
       let n = signed w false w-word q in
-      same-test (top binary32 + v) (top binary32 + w) (magnitude binary32 v) (magnitude binary32 w) (λ l. omega arith) (λ l. omega arith) ∙ units-test binary32 v w c h
+      same-test (top binary32 + v) (top binary32 + w) (magnitude binary32 v) (magnitude binary32 w) (λ l. omega arith) (λ l. omega arith) ∙ sym (units-test binary32 v w c h)
   by-signs false true p q apart c h = let n = leb-true (top binary32) w q in le-ltb (top binary32 + v) (2 * top binary32 - 1 - w) (omega arith)
   by-signs true false p q apart c h =
       let m = leb-true (top binary32) v p in
@@ -97,7 +77,7 @@ module _ (v w : ℕ) (v-word : v < 2 ^ 32) (w-word : w < 2 ^ 32) where
   by-signs true true p q apart c h =
       let m = signed v true v-word p in
       let n = signed w true w-word q in
-      same-test (2 * top binary32 - 1 - v) (2 * top binary32 - 1 - w) (magnitude binary32 w) (magnitude binary32 v) (λ l. omega arith) (λ l. omega arith) ∙ units-test binary32 w v c h
+      same-test (2 * top binary32 - 1 - v) (2 * top binary32 - 1 - w) (magnitude binary32 w) (magnitude binary32 v) (λ l. omega arith) (λ l. omega arith) ∙ sym (units-test binary32 w v c h)
 
   module _ (v-finite : Finite binary32 v) (w-finite : Finite binary32 w) where
     pub apart-order : Apart v w → ltb (place v) (place w) ≡ lt (ofBits binary32 v) (ofBits binary32 w)

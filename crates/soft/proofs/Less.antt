@@ -1,6 +1,6 @@
 -- Which of two words is the smaller number, by their signs and magnitudes; and the words of integers. Assumes nothing.
 use Prim.Native.Nat.{ℕ, zero, suc, _+_, _-_, _*_, _^_, _≤_, _<_}
-use native.Mathlib.Nat.{mul-one, mul-pos, mul-lt-mul-of-pos-right, mul-le-mul-right, le-of-lt, zero-mul}
+use native.Mathlib.Nat.{mul-one, mul-pos, le-of-lt, zero-mul}
 use native.Mathlib.Omega.{arith}
 use mathlib.Core.Path.{_≡_, refl, sym, ap, _∙_}
 use mathlib.Core.Bool.{Bool, true, false, not, _&&_, true≢false}
@@ -18,7 +18,7 @@ use Rattle.format.specs.Value.{units}
 use Rattle.format.proofs.AtLeastZero.{inf-pos}
 use Rattle.format.proofs.Nan.{nan-read}
 use Rattle.format.proofs.Value.{word-value, lt-values}
-use Rattle.format.proofs.Larger.{units-mono, units-strict}
+use Rattle.format.proofs.Larger.{units-test}
 use Rattle.soft.specs.Digits.{nearestWord, scaledWord}
 use Rattle.soft.proofs.Classes.{Class, a-nan, an-inf, a-number, class-of, inf-is, below-infinite, units-pos, zero-units}
 
@@ -57,13 +57,6 @@ pub less-nan-second : (a b : ℕ) → nanBits binary32 b ≡ true → false ≡ 
 less-nan-second a b n = sym (ap (lt (ofBits binary32 a)) (nan-read binary32 b n) ∙ lt-nan-second (ofBits binary32 a))
 
 module _ (f : Format) where
-  same-order : (a b c : ℕ) → 0 < c → ltb (units f a * c) (units f b * c) ≡ ltb (magnitude f a) (magnitude f b)
-  same-order a b c C = go (ltb (magnitude f a) (magnitude f b)) refl
-    where
-      go : (t : Bool) → ltb (magnitude f a) (magnitude f b) ≡ t → ltb (units f a * c) (units f b * c) ≡ t
-      go true h = lt-ltb (units f a * c) (units f b * c) (mul-lt-mul-of-pos-right (units-strict f a b (ltb-true (magnitude f a) (magnitude f b) h)) C)
-      go false h = le-ltb (units f a * c) (units f b * c) (mul-le-mul-right c (units-mono f b a (ltb-false (magnitude f a) (magnitude f b) h)))
-
   some : (a b c : ℕ) → 0 < c → ltb 0 (units f a * c + units f b * c) ≡ ltb 0 (magnitude f a + magnitude f b)
   some a b c C = go (ltb 0 (magnitude f a + magnitude f b)) refl
     where
@@ -82,10 +75,10 @@ module _ (f : Format) where
       go false h = le-ltb 0 (units f a * c + units f b * c) (none (ltb-false 0 (magnitude f a + magnitude f b) h))
 
   by-magnitude : (a b c : ℕ) → 0 < c → (s t : Bool) → below s (units f a * c) t (units f b * c) ≡ below s (magnitude f a) t (magnitude f b)
-  by-magnitude a b c C false false = same-order a b c C
+  by-magnitude a b c C false false = units-test f a b c C
   by-magnitude a b c C false true = refl
   by-magnitude a b c C true false = some a b c C
-  by-magnitude a b c C true true = same-order b a c C
+  by-magnitude a b c C true true = units-test f b a c C
 
   -- an infinity above every finite magnitude
   inf-first : (s t : Bool) (m i : ℕ) → m < i → s ≡ below s i t m
