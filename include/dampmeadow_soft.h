@@ -111,7 +111,7 @@ uint32_t dampmeadow_soft_div(uint32_t a, uint32_t b);
  *
  * Estimates, as they are in micromath, and raw: every word is answered, and which of them mean something is for the caller to
  * know. To 256 in size cos and sin are 0.0012 off at most. They are further off the larger the angle is, but from -1 to 1 of
- * every angle to 26353588 in size; of a larger one they are 0 or -4.35, and of one above 1.3*10^10 any number, an infinity too.
+ * every angle to 26353588 in size; of a larger one they are 0, 1 or -4.35, and of one above 1.3*10^10 any number, an infinity too.
  * Under 2^64 in size atan_norm lies from -1 to 1 and atan from 0xbfc90fdb to 0x3fc90fdb, the floats of -pi/2 and pi/2, and
  * turning the sign bit of the operand turns that of the answer and nothing else; from there on both are a NaN, of an infinity
  * too.

@@ -89,7 +89,7 @@ pub fn div(a: u32, b: u32) -> u32 {
 
 /// About the cosine of an angle in radians: what [`raw`](crate::raw) gives for [`Operation::Cos`](crate::Operation::Cos). To
 /// 256 in size it is 0.0012 off at most, and further off the larger the angle is. To 26353588 in size it is from -1 to 1; of a
-/// larger angle it is 0 or -4.35, and of one above 1.3*10^10 any number.
+/// larger angle it is 0, 1 or -4.35, and of one above 1.3*10^10 any number.
 ///
 /// ```
 /// use dampmeadow::soft::cos;
