@@ -37,6 +37,8 @@ use Rattle.dampmeadow.proofs.engine.dampmeadow_soft_cos.Reads as soft-c
 use Rattle.dampmeadow.proofs.engine.dampmeadow_soft_sin.Reads as soft-sin
 use Rattle.dampmeadow.proofs.engine.dampmeadow_soft_atan_norm.Reads as soft-atan-norm
 use Rattle.dampmeadow.proofs.engine.dampmeadow_soft_atan.Reads as soft-atan
+use Rattle.dampmeadow.proofs.studio.dampmeadow_double.Reads as double
+use Rattle.dampmeadow.proofs.studio.dampmeadow_columns.Reads as columns
 
 pub dampmeadow-words : (κs : Lfts 0) → OneAnswer (words.Post κs) (λ r x. r)
 dampmeadow-words κs = pinned _ (λ a r x p. p)
@@ -113,3 +115,21 @@ engine-dampmeadow-soft-atan-norm κs = pinned _ (λ a r x p. p)
 
 pub engine-dampmeadow-soft-atan : (κs : Lfts 0) → OneAnswer (soft-atan.Post κs) (λ r x. r)
 engine-dampmeadow-soft-atan κs = pinned _ (λ a r x p. p)
+
+-- ---- the studio edition: what is returned, and what each lent number is left with
+
+pub studio-dampmeadow-double : (κs : Lfts 1) → OneAnswer (double.Post κs) (λ r x. r)
+studio-dampmeadow-double κs = pinned _ (λ a r x p. p .0)
+
+pub studio-dampmeadow-double-word : (κs : Lfts 1) → OneAnswer (double.Post κs) (λ r x. now (x .1 .1 .0))
+studio-dampmeadow-double-word κs = pinned _ (λ a r x p. p .1)
+
+module _ (κs : Lfts 2) where
+  pub studio-dampmeadow-columns : OneAnswer (columns.Post κs) (λ r x. r)
+  studio-dampmeadow-columns = pinned _ (λ a r x p. p .0)
+
+  pub studio-dampmeadow-columns-first : OneAnswer (columns.Post κs) (λ r x. now (x .1 .1 .1 .1 .1 .0))
+  studio-dampmeadow-columns-first = pinned _ (λ a r x p. p .1 .0)
+
+  pub studio-dampmeadow-columns-last : OneAnswer (columns.Post κs) (λ r x. now (x .1 .1 .1 .1 .1 .1 .0))
+  studio-dampmeadow-columns-last = pinned _ (λ a r x p. p .1 .1)

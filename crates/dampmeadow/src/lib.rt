@@ -1,5 +1,5 @@
 // The exported calls, for C and Rust. The static library is built from it; no crate stands on it. Those
-// of the engine without floats are in engine.rt.
+// of the engine without floats are in engine.rt, and those of the studio edition in studio.rt.
 ghost use mathlib.Core.Path.{_≡_};
 ghost use lib.Ieee.{binary32, ofBits};
 ghost use mir.Syntax.{w32};
@@ -24,6 +24,7 @@ use frame::words;
 use grain::Grain;
 
 pub mod engine;
+pub mod studio;
 
 // What a frame with this operation and these two words answers: the refusal number in the high 32
 // bits and the word in the low 32.

@@ -1,6 +1,4 @@
 -- What belongs to no one function.
-mod Both
-mod Point
 pub mod Signs
 mod Twos
 pub mod Squaring

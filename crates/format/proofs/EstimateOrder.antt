@@ -1,7 +1,7 @@
 -- As the number grows sqrt's answer never falls, from +0 up to the infinity, and the answers of invsqrt and inv never rise, inv's up to where its
 -- subtraction wraps; and inv is odd to the bit. Assumes nothing.
 use Prim.Native.Nat.{ℕ, _+_, _-_, _*_, _/_, _^_, _≤_, _<_}
-use native.Mathlib.Nat.{mod-eq-of-lt, le-trans, le-of-lt}
+use native.Mathlib.Nat.{le-trans, le-of-lt}
 use native.Mathlib.Omega.{arith}
 use mathlib.Core.Path.{_≡_, refl, sym, _∙_}
 use mathlib.Core.Bool.{true, false}
@@ -12,15 +12,11 @@ use Rattle.format.specs.Fields.{width, infWord, oneWord}
 use Rattle.format.specs.Estimates.{sqrtWord, invMagic, invWord, invsqrtMagic, invsqrtWord, Normal}
 use Rattle.format.specs.Ordered.{Unsigned, Unwrapped, NoLarger, OddAt}
 use Rattle.format.proofs.Order.{no-wrap}
-use Rattle.format.proofs.AtLeastZero.{up-to-infinity}
+use Rattle.format.proofs.Halved.{halved-up}
 use Rattle.format.proofs.Compared.{to-infinity, from-infinity, order-of-words, no-larger}
-use Rattle.format.proofs.Sqrt.{sum-fits}
 use Rattle.format.proofs.Inv.{magic-below, magic-fits, inv-sign}
 
 -- ---- sqrt
-
-halved : (f : Format) (w : ℕ) → w ≤ infWord f → sqrtWord f w ≡ (w + oneWord f) / 2
-halved f w h = let l : w + oneWord f < 2 ^ width f = omega (arith, sum-fits f) in rw (up-to-infinity f w h, mod-eq-of-lt l)
 
 -- the half of 1's word, and that of 1's with the infinity's
 ends : (f : Format) → (hid f ≤ oneWord f / 2) × ((infWord f + oneWord f) / 2 < infWord f)
@@ -32,12 +28,12 @@ pub sqrt-normal : (f : Format) (w : ℕ) → Unsigned f w → Normal f (sqrtWord
 sqrt-normal f w u =
     let h = to-infinity f w u in
     let e = ends f in
-    rw (halved f w h) (record { above = omega arith; below = omega arith })
+    rw (halved-up f w h) (record { above = omega arith; below = omega arith })
 
 pub sqrt-keeps-order : (f : Format) (w v : ℕ) → Unsigned f v → w ≤ v → NoLarger f (sqrtWord f w) (sqrtWord f v)
 sqrt-keeps-order f w v u h =
     let k = to-infinity f v u in
-    no-larger f (sqrtWord f w) (sqrtWord f v) (rw (halved f w (le-trans h k), halved f v k) (omega arith)) (le-of-lt (sqrt-normal f v u .below))
+    no-larger f (sqrtWord f w) (sqrtWord f v) (rw (halved-up f w (le-trans h k), halved-up f v k) (omega arith)) (le-of-lt (sqrt-normal f v u .below))
 
 -- the same of two numbers that IEEE 754 compares
 pub sqrt-rises : (f : Format) (w v : ℕ) → Unsigned f w → Unsigned f v → le (ofBits f w) (ofBits f v) ≡ true → NoLarger f (sqrtWord f w) (sqrtWord f v)

@@ -15,6 +15,9 @@ pub mod RoundMeaning
 pub mod CastMeaning
 pub mod Clipped
 pub mod Pinned
+pub mod Both
+pub mod Lists
+pub mod First
 pub mod Order
 pub mod Larger
 pub mod Normal
@@ -24,8 +27,10 @@ pub mod Invsqrt
 pub mod SqrtExact
 pub mod EstimateOrder
 pub mod AtLeastZero
+pub mod Halved
 pub mod Compared
 pub mod Same
 pub mod Exact
 pub mod TakenOff
+pub mod Point
 pub mod Unique

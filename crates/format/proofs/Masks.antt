@@ -1,6 +1,6 @@
 -- A mask or an or on a word is one of its fields or two fields joined, so code may say either. Assumes nothing.
 use Prim.Native.Nat.{ℕ, _+_, _-_, _*_, _/_, _%_, _^_, _<_}
-use native.Mathlib.Nat.{zero-add, mod-lt}
+use native.Mathlib.Nat.{zero-add, mod-lt, mul-div-cancel}
 use native.Mathlib.Omega.{arith}
 use mathlib.Core.Path.{_≡_, refl, sym, ap, _∙_}
 use mathlib.Core.Bool.{Bool, true, false, not, cond}
@@ -9,7 +9,8 @@ use lib.Pow.{pow-pos, split, field}
 use borrow.Author.Tests.{leb-true, leb-false}
 use lib.Ieee.{Format, binary32, binary64, hid, ones, top}
 use Rattle.format.specs.Fields.{negative, magnitude, exponent, fraction, signBit}
-use Rattle.format.specs.Sign.{turnedWord}
+use Rattle.format.specs.Sign.{copysignWord, turnedWord}
+use Rattle.format.proofs.Fields.{hid-pos, magnitude-lt}
 
 pub clear-sign : (f : Format) (w : ℕ) → bitAnd w (top f - 1) ≡ magnitude f w
 clear-sign binary32 w = and-mask w 31
@@ -64,3 +65,13 @@ pub join-sign : (f : Format) (s : Bool) (m : ℕ) → m < top f → bitOr m (sig
 join-sign binary32 true m h = or-shifted-r 1 31 m h
 join-sign binary64 true m h = or-shifted-r 1 63 m h
 join-sign f false m h = or-zero-r m ∙ sym (zero-add m)
+
+-- the exponent field moved down to the lowest place, and one word's magnitude with another's sign
+pub field-down : (f : Format) (w : ℕ) → bitAnd w (ones f * hid f) / hid f ≡ exponent f w
+field-down f w = ap (λ (x : ℕ). x / hid f) (only-field f w) ∙ mul-div-cancel (exponent f w) (hid-pos f)
+
+pub signed-like : (f : Format) (w y : ℕ) → y < 2 * top f → bitOr (bitAnd w (top f - 1)) (bitAnd y (top f)) ≡ copysignWord f w y
+signed-like f w y h =
+    ap (λ (m : ℕ). bitOr m (bitAnd y (top f))) (clear-sign f w)
+    ∙ ap (bitOr (magnitude f w)) (only-sign f y h)
+    ∙ join-sign f (negative f y) (magnitude f w) (magnitude-lt f w)

@@ -1,13 +1,15 @@
--- Which words are read as the one NaN of `lib.Ieee` and which as its infinities, and what is written for the NaN; a finite word is none. Assumes nothing.
-use Prim.Native.Nat.{ℕ, zero, suc, _+_, _*_}
+-- Which words are read as the one NaN of `lib.Ieee` and which as its infinities, and what is written for the NaN; a finite word is none, what is
+-- none is its number's own word, and only the NaN differs from itself. Assumes nothing.
+use Prim.Native.Nat.{ℕ, zero, suc, _+_, _*_, _<_}
 use native.Mathlib.Nat.{ne-of-lt}
 use native.Mathlib.Omega.{arith}
 use mathlib.Core.Path.{_≡_, refl, sym, subst, _∙_}
-use mathlib.Core.Bool.{Bool, true, false, not, _&&_}
+use mathlib.Core.Bool.{Bool, true, false, not, _&&_, true≢false}
 use borrow.Author.Tests.{eq-eqb, ne-eqb, not-false}
 use lib.Dec.{T, eqb}
-use lib.Ieee.{Format, Float, nan, inf, fin, emax, ones, isNan, nanBits, ofFields, ofBits, toBits}
-use lib.Ieee.Bits.{nanBits-is}
+use lib.Ieee.{Format, binary32, binary64, Float, nan, inf, fin, emax, ones, top, isNan, ne, div, nanBits, ofFields, ofBits, toBits}
+use lib.Ieee.Bits.{toBits-ofBits, nanBits-is}
+use lib.Ieee.Compare.{nan-differs}
 use Rattle.format.specs.Fields.{negative, exponent, fraction, nanWord}
 use Rattle.format.specs.Value.{Finite}
 
@@ -45,3 +47,19 @@ inf-read f w e n =
 pub finite-number : (f : Format) (w : ℕ) → Finite f w → nanBits f w ≡ false
 unfolding nanBits
 finite-number f w h = rw (ne-eqb (exponent f w) (ones f) (ne-of-lt h))
+
+-- a word that is no NaN is its number's word
+pub kept-word : (f : Format) (w : ℕ) → w < 2 * top f → nanBits f w ≡ false → toBits f (ofBits f w) ≡ w
+kept-word f w h n = toBits-ofBits f w h (subst (λ (b : Bool). T (not b)) (sym (sym (nanBits-is f w) ∙ n)) tt)
+
+-- how the NaN is made, and told
+pub zero-over-zero : (f : Format) → div f (ofBits f 0) (ofBits f 0) ≡ nan
+unfolding div ofBits
+zero-over-zero binary32 = refl
+zero-over-zero binary64 = refl
+
+pub no-nan : (x : Float) → ne x x ≡ false → T (not (isNan x))
+unfolding isNan
+no-nan nan e = absurd (true≢false (sym nan-differs ∙ e))
+no-nan (inf s) e = tt
+no-nan (fin s m k) e = tt

@@ -1,7 +1,7 @@
 -- trunc is the whole part and fract the rest, each with the operand's sign bit, wherever the exponent is below the word's width:
--- for |x| under 2 ^ 32 at binary32. Both are exact, and their sum is x. Assumes nothing.
+-- for |x| under 2 ^ 32 at binary32 and 2 ^ 64 at binary64. Both are exact, and their sum is x. Assumes nothing.
 use Prim.Native.Nat.{ℕ, zero, suc, _+_, _-_, _*_, _/_, _%_, _^_, _<_, _≤_}
-use native.Mathlib.Nat.{add-comm, add-mul-mod-self-right, mod-eq-of-lt, mod-le, div-eq-of-lt, mul-assoc, zero-mul, add-zero, div-add-mod', lt-of-lt-of-le, lt-of-le-of-lt, lt-trans, sub-le}
+use native.Mathlib.Nat.{add-comm, add-mul-mod-self-right, mod-eq-of-lt, mod-le, div-eq-of-lt, mul-assoc, zero-mul, add-zero, div-add-mod', div-lt-iff-lt-mul, lt-of-lt-of-le, lt-of-le-of-lt, lt-trans, sub-le}
 use native.Mathlib.Omega.{arith}
 use mathlib.Core.Path.{_≡_, refl, sym, ap, subst, _∙_}
 use mathlib.Core.Bool.{Bool, true, false, cond}
@@ -14,7 +14,7 @@ use Rattle.format.specs.Fields.{width, negative, exponent, fraction, sig
 use Rattle.format.specs.Exponent.{places}
 use Rattle.format.specs.Value.{unitsAt, units, Finite}
 use Rattle.format.specs.Parts.{belowPoint, truncWord, fractWord, written}
-use Rattle.format.specs.Meaning.{IsTrunc, IsFract, Under32}
+use Rattle.format.specs.Meaning.{IsTrunc, IsFract, UnderWidth, Under32}
 use Rattle.format.proofs.Fields.{hid-pos, Made, made, three-fields, exponent-lt, fraction-lt}
 use Rattle.format.proofs.Order.{sub-mul}
 use Rattle.format.proofs.Parts.{moved-up, below-lt, fraction-word}
@@ -188,12 +188,16 @@ fract-is f w h = go (ltb (exponent f w) (emax f)) refl
           rest = z .count ∙ ap (λ (n : ℕ). n * 2 ^ (emax f - 1)) (ap (λ (n : ℕ). n * 2 ^ places f w) (below-is f w h) ∙ ap (λ (c : ℕ). t % 2 ^ left f x * 2 ^ c) (place-is f w h)) ∙ sym (past-rest f x t (ltb-false _ _ e));
         }
 
--- at binary32
-under32-width : (w : ℕ) → Under32 w → InWidth binary32 w
-under32-width w h = omega arith
+-- by the magnitude: |x| under 2 ^ 32, or 2 ^ 64
+in-width : (f : Format) (w : ℕ) → UnderWidth f w → InWidth f w
+in-width f w h = div-lt-iff-lt-mul (hid-pos f) .1 h
 
-pub trunc-under32 : (w : ℕ) → w < 2 ^ 32 → Under32 w → IsTrunc binary32 w (truncWord binary32 w)
-trunc-under32 w l h = trunc-is binary32 w l (under32-width w h)
+pub trunc-under : (f : Format) (w : ℕ) → w < 2 * top f → UnderWidth f w → IsTrunc f w (truncWord f w)
+trunc-under f w l h = trunc-is f w l (in-width f w h)
 
-pub fract-under32 : (w : ℕ) → Under32 w → IsFract binary32 w (fractWord binary32 w)
-fract-under32 w h = fract-is binary32 w (under32-width w h)
+pub fract-under : (f : Format) (w : ℕ) → UnderWidth f w → IsFract f w (fractWord f w)
+fract-under f w h = fract-is f w (in-width f w h)
+
+-- at binary32, in the gate's own word
+pub under32-is : (w : ℕ) → (Under32 w → UnderWidth binary32 w) × (UnderWidth binary32 w → Under32 w)
+under32-is w = ((λ h. h), (λ h. h))

@@ -1,18 +1,20 @@
 -- sqrt's answer, squared, lies from 1 - 1 / 2 ^ (prec f - 1) to 9/8 of a positive normal operand. Assumes nothing.
 use Prim.Native.Nat.{ℕ, suc, _+_, _-_, _*_, _/_, _^_, _≤_, _<_}
-use native.Mathlib.Nat.{mul-le-mul, mul-le-mul-left, mul-le-mul-right, mul-add-div, mod-eq-of-lt, le-of-lt}
+use native.Mathlib.Nat.{mul-le-mul, mul-le-mul-left, mul-le-mul-right, mul-add-div, le-of-lt}
 use native.Mathlib.Omega.{arith}
 use mathlib.Core.Path.{_≡_, refl, sym, ap, _∙_}
 use mathlib.Core.Logic.{inl, inr}
-use mathlib.Core.Bool.{false≢true}
+use mathlib.Core.Bool.{Bool, true, false, cond, false≢true}
 use lib.Dec.{lit<}
 use lib.Pow.{pow-add, suc-ones}
 use lib.Ieee.{Format, binary32, binary64, prec, emax, low, hid, lt, eq, le, ofBits}
-use Rattle.format.specs.Fields.{width, infWord, oneWord}
+use Rattle.format.specs.Fields.{infWord, oneWord}
 use Rattle.format.specs.Value.{units, Finite}
+use Rattle.format.specs.Classes.{isZero}
 use Rattle.format.specs.Estimates.{sqrtWord, Normal, SqrtBound}
 use Rattle.format.proofs.Order.{rearranged, squares}
-use Rattle.format.proofs.AtLeastZero.{up-to-infinity}
+use Rattle.format.proofs.Classes.{zero-bound}
+use Rattle.format.proofs.Halved.{halved-up}
 use Rattle.format.proofs.Normal.{finite-below, unsigned-below, units-of, pairs, rest, rest-lt, weight, word-by-twos, ByTwos, units-by-twos}
 
 -- ---- over plain numbers
@@ -61,20 +63,13 @@ pub one-weighs : (f : Format) → 2 ^ low f ≡ hid f * (2 ^ middle f * 2 ^ midd
 one-weighs binary32 = refl
 one-weighs binary64 = refl
 
-pub sum-fits : (f : Format) → infWord f + oneWord f < 2 ^ width f
-sum-fits binary32 = lit< tt
-sum-fits binary64 = lit< tt
-
 module _ (f : Format) (w : ℕ) (n : Normal f w) where
   sum : w + oneWord f ≡ 2 * (suc (pairs f w + middle f) * hid f) + rest f w
   sum = omega (arith, word-by-twos f w n, one-is f)
 
-  sum-lt : w + oneWord f < 2 ^ width f
-  sum-lt = omega (arith, sum-fits f)
-
   pub answer : sqrtWord f w ≡ suc (pairs f w + middle f) * hid f + rest f w / 2
   answer =
-      rw (up-to-infinity f w (le-of-lt (n .below)), mod-eq-of-lt sum-lt, sum)
+      rw (halved-up f w (le-of-lt (n .below)), sum)
       (mul-add-div (lit< tt) (suc (pairs f w + middle f) * hid f) (rest f w))
 
   pub answer-below : sqrtWord f w < infWord f
@@ -104,6 +99,14 @@ module _ (f : Format) (w : ℕ) (n : Normal f w) where
       by-field : ByTwos f w → SqrtBound f w (sqrtWord f w)
       by-field (inl (h, x)) = from (hid f + rest f w) x (lower-field (hid f - 1) (hid f) (rest f w) (rest f w / 2) (suc-ones (prec f - 1)) refl h)
       by-field (inr (h, x)) = from (2 * rest f w) x (upper-field (hid f - 1) (hid f) (rest f w) (rest f w / 2) (suc-ones (prec f - 1)) refl h (rest-lt f w))
+
+-- a guarded root: a zero is its own, and any other number has to be normal
+pub root-bound : (f : Format) (w : ℕ) → (isZero f w ≡ false → Normal f w) → SqrtBound f w (cond (isZero f w) w (sqrtWord f w))
+root-bound f w n = go (isZero f w) refl
+  where
+    go : (z : Bool) → isZero f w ≡ z → SqrtBound f w (cond z w (sqrtWord f w))
+    go true e = zero-bound f w e
+    go false e = sqrt-bound f w (n e)
 
 -- 9/8 is reached, at 2
 pub sqrt-of-two : 8 * (units binary32 (sqrtWord binary32 0x4000_0000) * units binary32 (sqrtWord binary32 0x4000_0000)) ≡ 9 * (units binary32 0x4000_0000 * 2 ^ 149)

@@ -4,6 +4,7 @@ pub mod Sign
 pub mod Exponent
 pub mod Value
 pub mod Classes
+pub mod First
 pub mod Cast
 pub mod Parts
 pub mod Whole

@@ -3,8 +3,8 @@
 use Prim.Native.Nat.{ℕ, _+_, _-_, _*_, _/_, _%_, _^_, _≤_, _<_}
 use mathlib.Core.Path.{_≡_}
 use mathlib.Core.Bool.{Bool, true, false}
-use lib.Ieee.{Format, binary32, low}
-use Rattle.format.specs.Fields.{negative, magnitude}
+use lib.Ieee.{Format, binary32, low, hid, emax}
+use Rattle.format.specs.Fields.{width, negative, magnitude}
 use Rattle.format.specs.Value.{units, Finite}
 
 -- r is w without its fraction, with w's sign bit
@@ -52,7 +52,13 @@ pub record IsRound (f : Format) (w r : ℕ) : Type 0 where
   pub near-below : 2 * (units f w - units f r) + 1 ≤ 2 ^ low f
   pub zero : units f r ≡ 0 → negative f r ≡ false
 
--- ---- the operands of binary32 for which the kernels have these meanings, by their gates
+-- ---- the operands for which the kernels have these meanings, by their gates
+
+-- |x| under 2 ^ width f: trunc and fract. At binary32 it is `Under32`
+abbrev pub UnderWidth : Format → ℕ → Type 0
+UnderWidth f w = magnitude f w < (emax f + width f) * hid f
+
+-- ---- at binary32
 
 -- |x| under 2 ^ 32: trunc and fract
 abbrev pub Under32 : ℕ → Type 0

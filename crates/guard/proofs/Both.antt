@@ -6,7 +6,8 @@ use borrow.Author.Tests.{ne-eqb}
 use lib.Ieee.{binary32, ofBits, toBits, nanBits}
 use Rattle.format.specs.Parts.{truncWord, fractWord}
 use Rattle.format.specs.Meaning.{Under32, IsTrunc, IsFract}
-use Rattle.format.proofs.PartsMeaning.{trunc-under32, fract-under32}
+use Rattle.format.proofs.Nan.{kept-word}
+use Rattle.format.proofs.PartsMeaning.{trunc-under, fract-under}
 use Rattle.sizes.proofs.Bitwise.{trunc-number, fract-number}
 use Rattle.guard.specs.declared.Guarded.the-variants.{Parts}
 use Rattle.guard.specs.declared.Answer.{Answer}
@@ -14,7 +15,7 @@ use Rattle.guard.specs.Operations.{opTrunc}
 use Rattle.guard.specs.Gates.{judged}
 use Rattle.guard.specs.Refusals.{refusalOf}
 use Rattle.guard.specs.Guarded.{wordOf, secondOf, Answered, refusedWith, given, GivesParts}
-use Rattle.guard.proofs.Gives.{kept-word, none-of}
+use Rattle.guard.proofs.Gives.{none-of}
 use Rattle.guard.proofs.Open.{opened}
 use Rattle.guard.proofs.NoNan.{under32}
 
@@ -35,15 +36,15 @@ module _ (w : ℕ) (w-lt : w < 2 ^ 32) (none : refusalOf opTrunc w 0 ≡ 0) wher
   inside = under32 w (opened opTrunc w 0 none .gate)
 
   whole : (t : ℕ) → t < 2 ^ 32 → t ≡ truncWord binary32 w → toBits binary32 (ofBits binary32 t) ≡ truncWord binary32 w
-  whole t h e = kept-word t h (rw e (trunc-number w w-lt inside)) ∙ e
+  whole t h e = kept-word binary32 t h (rw e (trunc-number w w-lt inside)) ∙ e
 
   rest : (t : ℕ) → t < 2 ^ 32 → t ≡ fractWord binary32 w → toBits binary32 (ofBits binary32 t) ≡ fractWord binary32 w
-  rest t h e = kept-word t h (rw e (fract-number w inside)) ∙ e
+  rest t h e = kept-word binary32 t h (rw e (fract-number w inside)) ∙ e
 
   pub both-answered : (t s : ℕ) → t < 2 ^ 32 → s < 2 ^ 32 → t ≡ truncWord binary32 w → s ≡ fractWord binary32 w → Both w (record { result = Parts (ofBits binary32 t) (ofBits binary32 s); products = 0 })
   both-answered t s h k e d = (
     record { answer = rw (none, e, d); refusal = sym none; word = rw none (whole t h e); second = rw none (rest s k d); count = refl },
-    ((λ z. rw (whole t h e) (trunc-under32 w w-lt inside)), (λ z. rw (rest s k d) (fract-under32 w inside))),
+    ((λ z. rw (whole t h e) (trunc-under binary32 w w-lt inside)), (λ z. rw (rest s k d) (fract-under binary32 w inside))),
   )
 
 -- ---- as of every guarded call: the words of a refusal are zero, and an answered part is no NaN

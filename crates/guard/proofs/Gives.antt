@@ -1,19 +1,15 @@
 -- What the answer of a guarded call is as words: a refusal's number with the zero word, or a word that is no NaN. Assumes nothing.
 use Prim.Native.Nat.{ℕ, zero, suc, _^_, _<_}
 use mathlib.Core.Path.{_≡_, refl, sym, ap, subst, _∙_}
-use mathlib.Core.Bool.{Bool, false, not, cond}
+use mathlib.Core.Bool.{false, cond}
 use borrow.Author.Tests.{ne-eqb}
-use lib.Dec.{T, eqb}
-use lib.Ieee.{binary32, nanBits, ofBits, toBits}
-use lib.Ieee.Bits.{toBits-ofBits, nanBits-is}
+use lib.Dec.{eqb}
+use lib.Ieee.{binary32, nanBits, ofBits}
+use Rattle.format.proofs.Nan.{kept-word}
 use Rattle.guard.specs.declared.Guarded.{Guarded}
 use Rattle.guard.specs.declared.Guarded.the-variants.{Number}
 use Rattle.guard.specs.declared.Answer.{Answer}
 use Rattle.guard.specs.Guarded.{wordOf, Answered, refusedWith, givenAfter, GivesAfter}
-
--- a word that is no NaN is its number's word
-pub kept-word : (w : ℕ) → w < 2 ^ 32 → nanBits binary32 w ≡ false → toBits binary32 (ofBits binary32 w) ≡ w
-kept-word w h n = toBits-ofBits binary32 w h (subst (λ (b : Bool). T (not b)) (sym (sym (nanBits-is binary32 w) ∙ n)) tt)
 
 -- ---- the two ways out of a guarded call
 
@@ -22,7 +18,7 @@ refused zero w h = absurd (h refl)
 refused (suc n) w h = let z = ne-eqb (suc n) 0 h in record { answer = refl; refusal = refl; word = rw z; count = rw z }
 
 pub numbered : {p : ℕ} (n w : ℕ) → w < 2 ^ 32 → n ≡ 0 → nanBits binary32 w ≡ false → GivesAfter p n w (record { result = Number (ofBits binary32 w); products = p })
-numbered n w h e k = rw e (record { answer = refl; refusal = refl; word = kept-word w h k; count = refl })
+numbered n w h e k = rw e (record { answer = refl; refusal = refl; word = kept-word binary32 w h k; count = refl })
 
 -- ---- an answer is given exactly where there is no refusal
 

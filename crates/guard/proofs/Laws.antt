@@ -12,6 +12,8 @@ use lib.Ieee.{Float, binary32, isNan, nanBits, ofBits}
 use lib.Ieee.Bits.{nanBits-is}
 use Rattle.format.specs.Fields.{magnitude}
 use Rattle.format.specs.Classes.{isEndless, isZero}
+use Rattle.format.specs.First.{Refusal, holds}
+use Rattle.format.proofs.First.{NoneHolds}
 use Rattle.format.proofs.Classes.{zero-not-endless, zero-not-small, zero-not-below}
 use Rattle.format.proofs.Fields.{magnitude-lt}
 use Rattle.float.specs.DivEuclid.{quotientWord}
@@ -21,10 +23,10 @@ use Rattle.guard.specs.declared.Guarded.the-variants.{Number}
 use Rattle.guard.specs.declared.Answer.{Answer}
 use Rattle.guard.specs.Operations.{opSqrt, opRemEuclid, opDivEuclid}
 use Rattle.guard.specs.Gates.{gateOf, passes, judged}
-use Rattle.guard.specs.Refusals.{Refusal, refusals, holds, refusalBehind, refusalOf}
+use Rattle.guard.specs.Refusals.{refusals, refusalBehind, refusalOf}
 use Rattle.guard.specs.Guarded.{givenAfter, refusalGiven, wordOf, secondOf, Answered, GivesAfter, valueOf, productsAt, Guards, refusalByNumber, GuardsByNumber}
 use Rattle.guard.proofs.Each.{Each, done, _⨟_, of-each}
-use Rattle.guard.proofs.First.{NoneHolds, first-given, none-given, none-holds}
+use Rattle.guard.proofs.First.{first-given, none-given, none-holds}
 use Rattle.guard.proofs.Gives.{answered-none, none-answered, answered-word}
 use Rattle.guard.proofs.Open.{outside}
 use Rattle.guard.proofs.NoNan.{no-nan}

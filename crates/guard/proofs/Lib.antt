@@ -1,5 +1,4 @@
 -- What belongs to no one function.
-pub mod Lists
 pub mod Each
 mod Gives
 pub mod First

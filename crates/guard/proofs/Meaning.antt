@@ -3,19 +3,17 @@
 use Prim.Native.Nat.{ℕ, _^_, _<_}
 use native.Mathlib.Omega.{arith}
 use mathlib.Core.Path.{_≡_, refl, sym, ap, _∙_}
-use mathlib.Core.Bool.{Bool, true, false, cond}
 use lib.Dec.{lit<}
 use lib.Ieee.{binary32, nanBits, ofBits}
-use Rattle.format.specs.Classes.{isZero}
 use Rattle.format.specs.Sign.{turnedWord}
 use Rattle.format.specs.Meaning.{IsTrunc, IsFract, IsFloor, IsCeil, IsRound}
-use Rattle.format.specs.Estimates.{sqrtWord, Normal, SqrtBound, InvBound, InvsqrtBound, InvsqrtTight}
-use Rattle.format.proofs.Classes.{finite-of, normal-of, zero-bound}
+use Rattle.format.specs.Estimates.{Normal, SqrtBound, InvBound, InvsqrtBound, InvsqrtTight}
+use Rattle.format.proofs.Classes.{finite-of, normal-of}
 use Rattle.format.proofs.Sign.{turned-magnitude}
-use Rattle.format.proofs.PartsMeaning.{trunc-under32, fract-under32}
+use Rattle.format.proofs.PartsMeaning.{trunc-under, fract-under}
 use Rattle.format.proofs.FloorMeaning.{floor-is, ceil-is}
 use Rattle.format.proofs.RoundMeaning.{round-is-nearest}
-use Rattle.format.proofs.Sqrt.{sqrt-bound}
+use Rattle.format.proofs.Sqrt.{root-bound}
 use Rattle.format.proofs.Inv.{inv-sign, inv-bound-by-size}
 use Rattle.format.proofs.Invsqrt.{invsqrt-bound, invsqrt-tight}
 use Rattle.float.specs.RemEuclid.{LeftBy}
@@ -38,11 +36,11 @@ open-to op a b r g h = opened op a b (answered-none g h)
 module _ (a b : ℕ) (r : Answer) where
   pub trunc-means : a < 2 ^ 32 → Guards opTrunc a b r → Answered r → IsTrunc binary32 a (wordOf r)
   unfolding judged
-  trunc-means k g h = rw (answered-word g h) (trunc-under32 a k (under32 a (open-to opTrunc a b r g h .gate)))
+  trunc-means k g h = rw (answered-word g h) (trunc-under binary32 a k (under32 a (open-to opTrunc a b r g h .gate)))
 
   pub fract-means : Guards opFract a b r → Answered r → IsFract binary32 a (wordOf r)
   unfolding judged
-  fract-means g h = rw (answered-word g h) (fract-under32 a (under32 a (open-to opFract a b r g h .gate)))
+  fract-means g h = rw (answered-word g h) (fract-under binary32 a (under32 a (open-to opFract a b r g h .gate)))
 
   pub floor-means : Guards opFloor a b r → Answered r → IsFloor binary32 a (wordOf r)
   unfolding judged
@@ -60,11 +58,7 @@ module _ (a b : ℕ) (r : Answer) where
 
   -- a zero, which is its own root, and a normal number
   pub sqrt-bounded : Guards opSqrt a b r → Answered r → SqrtBound binary32 a (wordOf r)
-  sqrt-bounded g h = rw (answered-word g h) (go (isZero binary32 a) refl)
-    where
-      go : (t : Bool) → isZero binary32 a ≡ t → SqrtBound binary32 a (cond t a (sqrtWord binary32 a))
-      go true z = zero-bound binary32 a z
-      go false z = let o = open-to opSqrt a b r g h in sqrt-bound binary32 a (normal-of binary32 a (o .first) z (o .small) (o .sign))
+  sqrt-bounded g h = let o = open-to opSqrt a b r g h in rw (answered-word g h) (root-bound binary32 a (λ z. normal-of binary32 a (o .first) z (o .small) (o .sign)))
 
   invsqrt-normal : Guards opInvsqrt a b r → Answered r → Normal binary32 a
   invsqrt-normal g h = let o = open-to opInvsqrt a b r g h in normal-of binary32 a (o .first) (o .zero) (o .small) (o .sign)

@@ -5,8 +5,9 @@ use mathlib.Core.Bool.{Bool, true, false, cond, _&&_}
 use mathlib.Core.List.{List, [], _∷_}
 use lib.Dec.{T}
 use lib.Ieee.Fits.{and-l, and-r}
+use Rattle.format.specs.First.{Refusal, holds, firstOf}
 use Rattle.guard.specs.Gates.{gateOf}
-use Rattle.guard.specs.Refusals.{Refusal, refusals, holds, firstOf, refusalBehind, refusalOf}
+use Rattle.guard.specs.Refusals.{refusals, refusalBehind, refusalOf}
 
 module _ (test : ℕ → Bool) (zero-passes : T (test 0)) where
   abbrev pub allPass : List Refusal → Bool

@@ -11,8 +11,9 @@ use borrow.Author.Tests.{leb-true, lt-leb, ltb-true, eqb-true, eqb-false, not-fa
 use lib.Dec.{leb, ltb, eqb}
 use lib.Ieee.{binary32, top, unlike}
 use Rattle.format.specs.Classes.{isEndless, isZero, isSmall, isBelowZero}
+use Rattle.format.specs.First.{among}
 use Rattle.guard.specs.declared.gate.Gate.{Gate}
-use Rattle.guard.specs.Operations.{among, opPowi}
+use Rattle.guard.specs.Operations.{opPowi}
 use Rattle.guard.specs.Gates.{low, high, other, gateOf, judged, place, within, passes}
 use Rattle.guard.specs.Refusals.{isPastPower, twoFloats, refusesZero, refusesSmall, refusesSign, refusalOf}
 use Rattle.guard.proofs.First.{none-holds}

@@ -18,6 +18,7 @@ use lib.Ieee.Fits.{mul-fits}
 use Rattle.format.specs.Fields.{negative, magnitude, exponent, signBit}
 use Rattle.format.specs.Value.{units, Finite}
 use Rattle.format.specs.Classes.{isZero}
+use Rattle.format.specs.First.{among}
 use Rattle.format.proofs.Fields.{magnitude-lt, sign-and-magnitude}
 use Rattle.format.proofs.Value.{word-value, lt-values}
 use Rattle.format.proofs.Order.{either, leb-is}
@@ -27,7 +28,7 @@ use Rattle.float.specs.Cos.{cosWord}
 use Rattle.float.specs.Powf.{productWord}
 use Rattle.float.specs.DivEuclid.{quotientWord}
 use Rattle.guard.specs.declared.gate.Gate.{Gate}
-use Rattle.guard.specs.Operations.{among, opExp, opPowf, opAtan2, opHypot, opTan, opRemEuclid, opDivEuclid}
+use Rattle.guard.specs.Operations.{opExp, opPowf, opAtan2, opHypot, opTan, opRemEuclid, opDivEuclid}
 use Rattle.guard.specs.Gates.{low, high, other, unbounded, gates, gateOf, place, passes, larger, judgedSize, judged}
 use Rattle.guard.proofs.Open.{both}
 

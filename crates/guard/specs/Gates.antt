@@ -8,12 +8,13 @@ use lib.Dec.{leb, eqb}
 use lib.Ieee.{binary32, top, unlike}
 use Rattle.format.specs.Fields.{negative, magnitude, infWord}
 use Rattle.format.specs.Classes.{isZero}
+use Rattle.format.specs.First.{among}
 use Rattle.float.specs.Engine.{ieee}
 use Rattle.float.specs.Cos.{cosWord}
 use Rattle.float.specs.Powf.{productWord}
 use Rattle.float.specs.DivEuclid.{quotientWord}
 use Rattle.guard.specs.declared.gate.Gate.{Gate}
-use Rattle.guard.specs.Operations.{among, opExp, opPowf, opAtan2, opHypot, opTan, opRemEuclid, opDivEuclid}
+use Rattle.guard.specs.Operations.{opExp, opPowf, opAtan2, opHypot, opTan, opRemEuclid, opDivEuclid}
 
 abbrev pub low : Gate → ℕ
 low g = g .0

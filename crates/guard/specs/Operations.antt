@@ -1,8 +1,5 @@
--- The number of each guarded operation in a frame, and lists of them. Definitions only.
+-- The number of each guarded operation in a frame. Definitions only.
 use Prim.Native.Nat.{ℕ}
-use mathlib.Core.Bool.{Bool, false, _||_}
-use mathlib.Core.List.{List, [], _∷_}
-use lib.Dec.{eqb}
 
 abbrev pub opTrunc : ℕ
 opTrunc = 0x01
@@ -81,8 +78,3 @@ opRemEuclid = 0x19
 
 abbrev pub opDivEuclid : ℕ
 opDivEuclid = 0x1a
-
--- whether a number is in a list
-abbrev pub among : List ℕ → ℕ → Bool
-among [] op = false
-among (k ∷ ks) op = eqb op k || among ks op

@@ -1,7 +1,7 @@
 -- The refusals 1, 2, 9, 3, 4 and 5, in the order in which they are judged: each has its number, the operations that can give it, and
 -- when it holds. The first that holds is given. Definitions only.
 use Prim.Native.Nat.{ℕ, _^_}
-use mathlib.Core.Bool.{Bool, true, cond, not, _&&_, _||_}
+use mathlib.Core.Bool.{Bool, not, _||_}
 use mathlib.Core.List.{List, [], _∷_}
 use lib.Dec.{ltb, eqb}
 use lib.IntN.{natAbs}
@@ -9,17 +9,16 @@ use lib.Ieee.{binary32}
 use mir.Syntax.{w32}
 use mir.Val.{toZ}
 use Rattle.format.specs.Classes.{isEndless, isZero, isSmall, isBelowZero}
+use Rattle.format.specs.First.{among, every, Refusal, firstOf}
 use Rattle.guard.specs.declared.gate.Gate.{Gate}
-use Rattle.guard.specs.Operations.{among, opCopysign, opSqrt, opInvsqrt, opInv, opRecip, opLn, opPowi, opPowf, opAtan2, opHypot, opRemEuclid, opDivEuclid}
+use Rattle.guard.specs.Operations.{opCopysign, opSqrt, opInvsqrt, opInv, opRecip, opLn, opPowi, opPowf, opAtan2, opHypot, opRemEuclid, opDivEuclid}
 use Rattle.guard.specs.Gates.{gateOf, passes, judged}
 
 -- powi's second word as a power: below -2 ^ 20 or above 2 ^ 20
 abbrev pub isPastPower : ℕ → Bool
 isPastPower n = ltb (2 ^ 20) (natAbs (toZ w32 n))
 
--- the operations that a rule is about
-abbrev pub every : ℕ → Bool
-every op = true
+-- ---- the operations that a rule is about
 
 -- the second operand is a float
 abbrev pub twoFloats : ℕ → Bool
@@ -36,11 +35,7 @@ refusesSmall op = eqb op opSqrt || refusesZero op
 abbrev pub refusesSign : ℕ → Bool
 refusesSign = among (opSqrt ∷ opInvsqrt ∷ opLn ∷ opPowf ∷ [])
 
--- a number of the table, the operations that give it, and when it holds of an operation and its two words
-pub record Refusal : Type 0 where
-  pub number : ℕ
-  pub by : ℕ → Bool
-  pub when : ℕ → ℕ → ℕ → Bool
+-- ---- the rules
 
 -- behind a gate, which is the operation's own, in the order of the table; 1 stands twice, for the first operand and for a second that is
 -- a float
@@ -54,14 +49,6 @@ refusals g =
     ∷ record { number = 4; by = every; when = λ op a b. not (passes g (judged op a b)) }
     ∷ record { number = 5; by = among (opPowi ∷ []); when = λ op a b. isPastPower b }
     ∷ []
-
-abbrev pub holds : Refusal → ℕ → ℕ → ℕ → Bool
-holds r op a b = r .by op && r .when op a b
-
--- the number of the first that holds, and 0 where none does
-abbrev pub firstOf : List Refusal → ℕ → ℕ → ℕ → ℕ
-firstOf [] op a b = 0
-firstOf (r ∷ rs) op a b = cond (holds r op a b) (r .number) (firstOf rs op a b)
 
 unfoldable pub refusalBehind : Gate → ℕ → ℕ → ℕ → ℕ
 refusalBehind g op a b = firstOf (refusals g) op a b

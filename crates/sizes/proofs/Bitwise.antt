@@ -15,7 +15,7 @@ use Rattle.format.specs.Meaning.{Under32, To31, Under23}
 use Rattle.format.specs.Estimates.{sqrtWord, invWord, invsqrtWord, Normal, Invertible}
 use Rattle.format.proofs.Nan.{finite-number}
 use Rattle.format.proofs.Sign.{abs-is, copysign-is}
-use Rattle.format.proofs.PartsMeaning.{trunc-under32, fract-under32}
+use Rattle.format.proofs.PartsMeaning.{trunc-under, fract-under}
 use Rattle.format.proofs.FloorMeaning.{floor-is, ceil-is}
 use Rattle.format.proofs.RoundMeaning.{round-is-nearest}
 use Rattle.format.proofs.Inv.{inv-bound-by-size}
@@ -25,10 +25,10 @@ use Rattle.format.proofs.Invsqrt.{invsqrt-finite}
 -- ---- the whole and fraction parts
 
 pub trunc-number : (w : ℕ) → w < 2 ^ 32 → Under32 w → nanBits binary32 (truncWord binary32 w) ≡ false
-trunc-number w l h = finite-number binary32 (truncWord binary32 w) (trunc-under32 w l h .finite)
+trunc-number w l h = finite-number binary32 (truncWord binary32 w) (trunc-under binary32 w l h .finite)
 
 pub fract-number : (w : ℕ) → Under32 w → nanBits binary32 (fractWord binary32 w) ≡ false
-fract-number w h = finite-number binary32 (fractWord binary32 w) (fract-under32 w h .finite)
+fract-number w h = finite-number binary32 (fractWord binary32 w) (fract-under binary32 w h .finite)
 
 pub floor-number : (w : ℕ) → To31 w → nanBits binary32 (floorWord binary32 w) ≡ false
 floor-number w h = finite-number binary32 (floorWord binary32 w) (floor-is w h .finite)

@@ -21,7 +21,7 @@ use Rattle.format.specs.Value.{units, Finite}
 use Rattle.format.specs.Exponent.{exponentValue, moved, setExponentWord}
 use Rattle.format.specs.Parts.{truncWord, fractWord}
 use Rattle.format.specs.Meaning.{Under32}
-use Rattle.format.proofs.PartsMeaning.{trunc-under32, fract-under32}
+use Rattle.format.proofs.PartsMeaning.{trunc-under, fract-under}
 use Rattle.format.proofs.Larger.{units-mono}
 use Rattle.float.specs.Rounded.{isAt}
 use Rattle.float.specs.Exp.{series, clipped, scaledWord, logWord, seriesWord, exponentOf, powerWord, expWord}
@@ -128,12 +128,12 @@ module _ (w : ℕ) (small : magnitude binary32 w ≤ 0x42b0_0000) where
 
   fract-at-most : AtMost binary32 0x3f80_0000 (ofBits binary32 (fractWord binary32 t))
   fract-at-most =
-      let f = fract-under32 t log-under in
+      let f = fract-under binary32 t log-under in
       units-at-most binary32 (fractWord binary32 t) 0x3f80_0000 (f .finite) (le-trans (le-of-eq (f .rest)) (le-of-lt (mod-lt (units binary32 t) (pow-pos 149))))
 
   trunc-at-most : AtMost binary32 0x42fd_f000 (ofBits binary32 (truncWord binary32 t))
   trunc-at-most =
-      let r = trunc-under32 t (toBits-lt binary32 _ product-fits) log-under in
+      let r = trunc-under binary32 t (toBits-lt binary32 _ product-fits) log-under in
       units-at-most binary32 (truncWord binary32 t) 0x42fd_f000 (r .finite)
       (le-trans (le-of-eq (r .whole)) (le-trans (div-mul-le-self (units binary32 t) (2 ^ 149)) (units-mono binary32 t 0x42fd_f000 log-small)))
 

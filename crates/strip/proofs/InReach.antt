@@ -23,7 +23,7 @@ use Rattle.float.specs.Atan2.{atan2Word}
 use Rattle.float.specs.Cos.{cosWord, sinWord}
 use Rattle.float.specs.Hypot.{hypotWord}
 use Rattle.raw.specs.Raw.{kernelOf, rawOf}
-use Rattle.guard.specs.Operations.{among}
+use Rattle.format.specs.First.{among}
 use Rattle.guard.specs.Refusals.{refusalOf}
 use Rattle.guard.specs.Guarded.{valueOf}
 use Rattle.guard.proofs.Open.{both, opened}

@@ -11,7 +11,7 @@ use lib.Ieee.{binary32}
 use Rattle.format.specs.Fields.{magnitude}
 use Rattle.format.specs.Sign.{absWord}
 use Rattle.format.specs.Estimates.{invWord, invsqrtWord}
-use Rattle.guard.specs.Operations.{among}
+use Rattle.format.specs.First.{among}
 
 -- a magnitude up to a limit
 abbrev pub upTo : ℕ → ℕ → Bool

@@ -11,7 +11,7 @@ use Rattle.format.proofs.Sign.{turned-read, turned-written}
 use Rattle.format.proofs.Whole.{floor-no-nan, floor-fits}
 use Rattle.format.specs.Meaning.{IsCeil}
 use Rattle.format.proofs.FloorMeaning.{ceil-is}
-use Rattle.float.proofs.Both.{both}
+use Rattle.format.proofs.Both.{both}
 use Rattle.float.proofs.F32.ceil.Statement.{statement}
 use Rattle.float.proofs.F32.ceil.Tie as tie
 

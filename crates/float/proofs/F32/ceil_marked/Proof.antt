@@ -10,7 +10,7 @@ use Rattle.format.specs.Meaning.{IsCeil}
 use Rattle.format.proofs.Masks.{turn-sign}
 use Rattle.format.proofs.FloorMeaning.{ceil-by-floor, ceil-is}
 use Rattle.float.specs.Marks.{markOf}
-use Rattle.float.proofs.Both.{both}
+use Rattle.format.proofs.Both.{both}
 use Rattle.float.proofs.F32.ceil_marked.Statement.{statement}
 use Rattle.float.proofs.F32.ceil_marked.Tie as tie
 

@@ -3,7 +3,8 @@ use borrow.Author.Needs.{needs}
 use mathlib.Core.Path.{ap}
 use Prim.Native.Nat.{ℕ}
 use lib.Dec.{eqb}
-use Rattle.float.proofs.Point.{masked}
+use lib.Ieee.{binary32}
+use Rattle.format.proofs.Point.{masked}
 use Rattle.float.proofs.F32.is_integer.Statement.{statement}
 use Rattle.float.proofs.F32.is_integer.Tie as tie
 
@@ -12,5 +13,5 @@ is-integer-spec =
     let met = tie.spec
     (λ c κs. search needs)
     (λ c κs. search needs)
-    (λ c. ap (λ (x : ℕ). eqb x 0) (masked (c .before .before .args .self .0) _ _ (c .before .exponent-clamped .ensures) (c .shl .ensures))) in
+    (λ c. ap (λ (x : ℕ). eqb x 0) (masked binary32 (c .before .before .args .self .0) _ _ (c .before .exponent-clamped .ensures) (c .shl .ensures))) in
     tie.close met

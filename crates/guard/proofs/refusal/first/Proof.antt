@@ -4,8 +4,9 @@ use Prim.Native.Nat.{ℕ}
 use mathlib.Core.Path.{_≡_, sym, _∙_}
 use borrow.Author.Tests.{not-true, not-false}
 use lib.ListN.{drop}
+use Rattle.format.specs.First.{firstOf}
 use Rattle.guard.specs.Gates.{passes, judged}
-use Rattle.guard.specs.Refusals.{refusals, firstOf, refusalBehind}
+use Rattle.guard.specs.Refusals.{refusals, refusalBehind}
 use Rattle.guard.proofs.refusal.first.Statement.{statement}
 use Rattle.guard.proofs.refusal.first.Tie as tie
 

@@ -1,7 +1,7 @@
 -- `guard::refusal::refuses_zero` meets its contract: each arm is one entry of the list. Assumes nothing.
 use mathlib.Core.Path.{sym}
 use mathlib.Core.List.{[], _∷_}
-use Rattle.guard.proofs.Lists.{unlisted}
+use Rattle.format.proofs.Lists.{unlisted}
 use Rattle.guard.proofs.refusal.refuses_zero.Statement.{statement}
 use Rattle.guard.proofs.refusal.refuses_zero.Tie as tie
 

@@ -6,7 +6,7 @@ use mathlib.Core.Bool.{true≢false}
 use lib.Dec.{lit≤}
 use Rattle.float.specs.Engine.{ieee}
 use Rattle.float.specs.Cos.{cosWord, sinWord}
-use Rattle.guard.proofs.Lists.{unlisted}
+use Rattle.format.proofs.Lists.{unlisted}
 use Rattle.strip.specs.Reach.{blocked}
 use Rattle.strip.proofs.InReach.{within-reach, abs-answered, root-answered, invsqrt-answered, inv-answered, atan-answered, angle-taken, cos-taken, sin-taken, hypot-taken, raw-root, raw-atan, raw-angle, raw-cos, raw-sin, raw-hypot}
 use Rattle.strip.proofs.quick.any.Statement.{statement}

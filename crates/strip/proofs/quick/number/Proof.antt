@@ -2,7 +2,7 @@
 use borrow.Author.Needs.{needs}
 use mathlib.Core.Path.{sym, _∙_}
 use mathlib.Core.Bool.{true≢false}
-use Rattle.guard.proofs.Lists.{unlisted}
+use Rattle.format.proofs.Lists.{unlisted}
 use Rattle.strip.specs.Reach.{blocked}
 use Rattle.strip.proofs.InReach.{abs-number-at, invsqrt-number-at, inv-number-at, root-number-at, atan-number-at, angle-number-at, cos-number-at, sin-number-at, hypot-number-at, raw-root, raw-atan, raw-angle, raw-cos, raw-sin, raw-hypot}
 use Rattle.strip.proofs.quick.number.Statement.{statement}

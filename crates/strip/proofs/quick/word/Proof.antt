@@ -10,7 +10,7 @@ use lib.Dec.{lit≤}
 use lib.Ieee.{binary32}
 use Rattle.format.specs.Fields.{magnitude}
 use Rattle.guard.proofs.Open.{both}
-use Rattle.guard.proofs.Lists.{unlisted}
+use Rattle.format.proofs.Lists.{unlisted}
 use Rattle.strip.specs.Strip.{wordAt, refusalAt}
 use Rattle.strip.specs.Reach.{upTo, stepped, computed, hasBlocks}
 use Rattle.strip.proofs.InReach.{Answered, skipped, angle-reached, no-nan, in-reach, atan-answered, angle-answered, cos-answered, sin-answered, hypot-answered, raw-atan, raw-angle, raw-cos, raw-sin, raw-hypot}

@@ -7,7 +7,7 @@ use mathlib.Core.List.{List, [], _∷_}
 use borrow.Author.Tests.{ne-eqb}
 use lib.Dec.{eqb}
 use types.Run.{OneOf}
-use Rattle.guard.specs.Operations.{among}
+use Rattle.format.specs.First.{among}
 
 -- what the last arm knows beside N: the number is none of the keys
 abbrev NoneOf : Type 0 → List ℕ → ℕ → Type 0

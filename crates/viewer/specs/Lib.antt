@@ -1,0 +1,2 @@
+-- What is on screen of two rows.
+pub mod View

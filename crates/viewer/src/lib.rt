@@ -1,0 +1,68 @@
+// The row on screen: columns of the scanned row or of the retouched one, lent back without a copy.
+ghost use mathlib.Core.Path.{_≡_};
+ghost use lib.ListN.{length};
+ghost use denote.Ref.{ptr};
+ghost use Rattle.viewer.specs.View.{spanOf, viewed, placeIn};
+
+// Which row a part is of, and its columns: the first is in it and the last is not.
+pub struct Part {
+    pub retouched: bool,
+    pub from: usize,
+    pub to: usize,
+}
+
+// The empty part of the scanned row.
+const NOTHING: Part = Part {
+    retouched: false,
+    from: 0,
+    to: 0,
+};
+
+// The part of one of two rows that have these lengths. Where its columns are out of order or past the
+// end of the row chosen, it is the empty part of the scanned one.
+pub fn span(scan: usize, retouch: usize, retouched: bool, from: usize, to: usize) -> Part
+    ensures { λ r. ⌜ r ≡ spanOf scan retouch retouched from to ⌝ }
+{
+    if to < from {
+        return NOTHING;
+    }
+    if retouched {
+        if retouch < to {
+            return NOTHING;
+        }
+        return Part {
+            retouched: true,
+            from: from,
+            to: to,
+        };
+    }
+    if scan < to {
+        return NOTHING;
+    }
+    Part {
+        retouched: false,
+        from: from,
+        to: to,
+    }
+}
+
+// That part itself: what stands in it, and in the row's own memory. The empty part of a refused call
+// begins where the scanned row does.
+pub fn columns<'a>(
+    scan: &'a [u32],
+    retouch: &'a [u32],
+    retouched: bool,
+    from: usize,
+    to: usize,
+) -> &'a [u32]
+    ensures part { λ r. ⌜ now r ≡ viewed (now (scan .entry)) (now (retouch .entry)) retouched from to ⌝ }
+    ensures place { λ r. ⌜ ptr r ≡ placeIn (scan .entry) (retouch .entry) (spanOf (length (now (scan .entry))) (length (now (retouch .entry))) retouched from to) ⌝ }
+{
+    let part = span(scan.len(), retouch.len(), retouched, from, to);
+    let first = part.from;
+    let last = part.to;
+    if part.retouched {
+        return &retouch[first..last];
+    }
+    &scan[first..last]
+}
