@@ -14,6 +14,8 @@ use Rattle.probe.proofs.probe_set_exponent.Reads as set-exponent
 use Rattle.probe.proofs.probe_is_integer.Reads as is-integer
 use Rattle.probe.proofs.probe_is_even.Reads as is-even
 use Rattle.probe.proofs.probe_constant.Reads as constant
+use Rattle.probe.proofs.studio.probe_double_constant.Reads as double-constant
+use Rattle.probe.proofs.studio.probe_columns.Reads as columns
 
 module _ (κs : Lfts 0) where
   pub probe-to-i32 : OneAnswer (to-i32.Post κs) (λ r x. r)
@@ -52,5 +54,11 @@ module _ (κs : Lfts 0) where
   pub probe-is-even : OneAnswer (is-even.Post κs) (λ r x. r)
   probe-is-even = pinned _ (λ a r x p. p)
 
+  pub studio-probe-double-constant : OneAnswer (double-constant.Post κs) (λ r x. r)
+  studio-probe-double-constant = pinned _ (λ a r x p. p)
+
   pub probe-constant : OneAnswer (constant.Post κs) (λ r x. r)
   probe-constant = pinned _ (λ a r x p. p)
+
+pub studio-probe-columns : (κs : Lfts 1) → OneAnswer (columns.Post κs) (λ r x. r)
+studio-probe-columns κs = pinned _ (λ a r x p. p)

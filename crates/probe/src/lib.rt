@@ -1,5 +1,6 @@
 // Exported calls for the comparison alone: the casts and helpers of `float`, which the crate keeps
-// to itself and no frame reaches, and raw powi's count. No crate stands on it.
+// to itself and no frame reaches, and raw powi's count. Those of the studio edition are in studio.rt.
+// No crate stands on it.
 ghost use mathlib.Core.Path.{_≡_};
 ghost use Prim.Native.Nat.{_+_, _*_, _%_, _^_};
 ghost use lib.IntN.{pos};
@@ -14,6 +15,8 @@ ghost use lib.ListN.{getD};
 ghost use Rattle.probe.specs.Constants.{constants};
 use float::F32;
 use float::cos::TURN;
+
+pub mod studio;
 
 #[no_mangle]
 pub extern "C" fn probe_to_i32(a: u32) -> i32
