@@ -21,23 +21,15 @@ right (case op a n w ∷ cs) = (eqb (doubleRefusal op a) n && eqb (doubleWord op
 
 pub guarded : List Case
 guarded =
-    case 0x01 0x43ef_ffff_ffff_ffff 0 0x43ef_ffff_ffff_ffff
-    ∷ case 0x01 0x43f0_0000_0000_0000 4 0
-    ∷ case 0x01 0xc3ef_ffff_ffff_ffff 0 0xc3ef_ffff_ffff_ffff
-    ∷ case 0x01 0xc3f0_0000_0000_0000 4 0
-    ∷ case 0x01 0x7fef_ffff_ffff_ffff 4 0
-    ∷ case 0x01 0x7ff0_0000_0000_0000 1 0
-    ∷ case 0x01 0xfff0_0000_0000_0000 1 0
-    ∷ case 0x01 0xfff8_0000_0000_0000 1 0
+    case 0x01 0x43ef_ffff_ffff_ffff 0 0x43ef_ffff_ffff_ffff ∷ case 0x01 0x43f0_0000_0000_0000 4 0
+    ∷ case 0x01 0xc3ef_ffff_ffff_ffff 0 0xc3ef_ffff_ffff_ffff ∷ case 0x01 0xc3f0_0000_0000_0000 4 0
+    ∷ case 0x01 0x7fef_ffff_ffff_ffff 4 0 ∷ case 0x01 0x7ff0_0000_0000_0000 1 0
+    ∷ case 0x01 0xfff0_0000_0000_0000 1 0 ∷ case 0x01 0xfff8_0000_0000_0000 1 0
     ∷ case 0x01 0x7ff0_0000_0000_0001 1 0
-    ∷ case 0x02 0x43ef_ffff_ffff_ffff 0 0x0000_0000_0000_0000
-    ∷ case 0x02 0x43f0_0000_0000_0000 4 0
-    ∷ case 0x02 0xc3ef_ffff_ffff_ffff 0 0x8000_0000_0000_0000
-    ∷ case 0x02 0xc3f0_0000_0000_0000 4 0
-    ∷ case 0x02 0x7fef_ffff_ffff_ffff 4 0
-    ∷ case 0x02 0x7ff0_0000_0000_0000 1 0
-    ∷ case 0x02 0xfff0_0000_0000_0000 1 0
-    ∷ case 0x02 0xfff8_0000_0000_0000 1 0
+    ∷ case 0x02 0x43ef_ffff_ffff_ffff 0 0x0000_0000_0000_0000 ∷ case 0x02 0x43f0_0000_0000_0000 4 0
+    ∷ case 0x02 0xc3ef_ffff_ffff_ffff 0 0x8000_0000_0000_0000 ∷ case 0x02 0xc3f0_0000_0000_0000 4 0
+    ∷ case 0x02 0x7fef_ffff_ffff_ffff 4 0 ∷ case 0x02 0x7ff0_0000_0000_0000 1 0
+    ∷ case 0x02 0xfff0_0000_0000_0000 1 0 ∷ case 0x02 0xfff8_0000_0000_0000 1 0
     ∷ case 0x02 0x7ff0_0000_0000_0001 1 0
     ∷ case 0x01 0x4270_0000_0000_0800 0 0x4270_0000_0000_0000  -- 2 ^ 40 + 1/2
     ∷ case 0x02 0x4270_0000_0000_0800 0 0x3fe0_0000_0000_0000
@@ -62,43 +54,25 @@ guarded =
     ∷ case 0x01 0x8000_0000_0000_0000 0 0x8000_0000_0000_0000
     ∷ case 0x02 0x8000_0000_0000_0000 0 0x8000_0000_0000_0000
     ∷ case 0x09 0x0000_0000_0000_0000 0 0x0000_0000_0000_0000  -- a zero is its own root
-    ∷ case 0x09 0x8000_0000_0000_0000 0 0x8000_0000_0000_0000
-    ∷ case 0x09 0x0000_0000_0000_0001 9 0
-    ∷ case 0x09 0x000f_ffff_ffff_ffff 9 0
-    ∷ case 0x09 0x8000_0000_0000_0001 9 0
-    ∷ case 0x09 0x800f_ffff_ffff_ffff 9 0
-    ∷ case 0x09 0x0010_0000_0000_0000 0 0x2000_0000_0000_0000
-    ∷ case 0x09 0x8010_0000_0000_0000 3 0
-    ∷ case 0x09 0xbff0_0000_0000_0000 3 0
-    ∷ case 0x09 0xffef_ffff_ffff_ffff 3 0
-    ∷ case 0x09 0x4010_0000_0000_0000 0 0x4000_0000_0000_0000
-    ∷ case 0x09 0x4000_0000_0000_0000 0 0x3ff8_0000_0000_0000
-    ∷ case 0x09 0x7fef_ffff_ffff_ffff 0 0x5fef_ffff_ffff_ffff
-    ∷ case 0x09 0x7ff0_0000_0000_0000 1 0
-    ∷ case 0x09 0xfff0_0000_0000_0000 1 0
+    ∷ case 0x09 0x8000_0000_0000_0000 0 0x8000_0000_0000_0000 ∷ case 0x09 0x0000_0000_0000_0001 9 0
+    ∷ case 0x09 0x000f_ffff_ffff_ffff 9 0 ∷ case 0x09 0x8000_0000_0000_0001 9 0
+    ∷ case 0x09 0x800f_ffff_ffff_ffff 9 0 ∷ case 0x09 0x0010_0000_0000_0000 0 0x2000_0000_0000_0000
+    ∷ case 0x09 0x8010_0000_0000_0000 3 0 ∷ case 0x09 0xbff0_0000_0000_0000 3 0
+    ∷ case 0x09 0xffef_ffff_ffff_ffff 3 0 ∷ case 0x09 0x4010_0000_0000_0000 0 0x4000_0000_0000_0000
+    ∷ case 0x09 0x4000_0000_0000_0000 0 0x3ff8_0000_0000_0000 ∷ case 0x09 0x7fef_ffff_ffff_ffff 0 0x5fef_ffff_ffff_ffff
+    ∷ case 0x09 0x7ff0_0000_0000_0000 1 0 ∷ case 0x09 0xfff0_0000_0000_0000 1 0
     ∷ case 0x09 0xfff8_0000_0000_0000 1 0
-    ∷ case 0x0b 0x0000_0000_0000_0000 2 0
-    ∷ case 0x0b 0x0000_0000_0000_0001 9 0
-    ∷ case 0x0b 0x000f_ffff_ffff_ffff 9 0
-    ∷ case 0x0b 0x0010_0000_0000_0000 0 0x7fd0_0000_0000_0000
-    ∷ case 0x0b 0x3ff0_0000_0000_0000 0 0x3ff0_0000_0000_0000
-    ∷ case 0x0b 0x3ff8_0000_0000_0000 0 0x3fe8_0000_0000_0000
-    ∷ case 0x0b 0x7fd0_0000_0000_0000 0 0x0010_0000_0000_0000
-    ∷ case 0x0b 0x7fd0_0000_0000_0001 4 0
-    ∷ case 0x0b 0x7fef_ffff_ffff_ffff 4 0
-    ∷ case 0x0b 0x7ff0_0000_0000_0000 1 0
-    ∷ case 0x0b 0x7ff8_0000_0000_0000 1 0
-    ∷ case 0x0b 0x8000_0000_0000_0000 2 0
-    ∷ case 0x0b 0x8000_0000_0000_0001 9 0
-    ∷ case 0x0b 0x800f_ffff_ffff_ffff 9 0
-    ∷ case 0x0b 0x8010_0000_0000_0000 0 0xffd0_0000_0000_0000
-    ∷ case 0x0b 0xbff0_0000_0000_0000 0 0xbff0_0000_0000_0000
-    ∷ case 0x0b 0xbff8_0000_0000_0000 0 0xbfe8_0000_0000_0000
-    ∷ case 0x0b 0xffd0_0000_0000_0000 0 0x8010_0000_0000_0000
-    ∷ case 0x0b 0xffd0_0000_0000_0001 4 0
-    ∷ case 0x0b 0xffef_ffff_ffff_ffff 4 0
-    ∷ case 0x0b 0xfff0_0000_0000_0000 1 0
-    ∷ case 0x0b 0xfff8_0000_0000_0000 1 0
+    ∷ case 0x0b 0x0000_0000_0000_0000 2 0 ∷ case 0x0b 0x0000_0000_0000_0001 9 0
+    ∷ case 0x0b 0x000f_ffff_ffff_ffff 9 0 ∷ case 0x0b 0x0010_0000_0000_0000 0 0x7fd0_0000_0000_0000
+    ∷ case 0x0b 0x3ff0_0000_0000_0000 0 0x3ff0_0000_0000_0000 ∷ case 0x0b 0x3ff8_0000_0000_0000 0 0x3fe8_0000_0000_0000
+    ∷ case 0x0b 0x7fd0_0000_0000_0000 0 0x0010_0000_0000_0000 ∷ case 0x0b 0x7fd0_0000_0000_0001 4 0
+    ∷ case 0x0b 0x7fef_ffff_ffff_ffff 4 0 ∷ case 0x0b 0x7ff0_0000_0000_0000 1 0
+    ∷ case 0x0b 0x7ff8_0000_0000_0000 1 0 ∷ case 0x0b 0x8000_0000_0000_0000 2 0
+    ∷ case 0x0b 0x8000_0000_0000_0001 9 0 ∷ case 0x0b 0x800f_ffff_ffff_ffff 9 0
+    ∷ case 0x0b 0x8010_0000_0000_0000 0 0xffd0_0000_0000_0000 ∷ case 0x0b 0xbff0_0000_0000_0000 0 0xbff0_0000_0000_0000
+    ∷ case 0x0b 0xbff8_0000_0000_0000 0 0xbfe8_0000_0000_0000 ∷ case 0x0b 0xffd0_0000_0000_0000 0 0x8010_0000_0000_0000
+    ∷ case 0x0b 0xffd0_0000_0000_0001 4 0 ∷ case 0x0b 0xffef_ffff_ffff_ffff 4 0
+    ∷ case 0x0b 0xfff0_0000_0000_0000 1 0 ∷ case 0x0b 0xfff8_0000_0000_0000 1 0
     ∷ case 0x00 0x3ff0_0000_0000_0000 6 0
     ∷ case 0x03 0x3ff0_0000_0000_0000 6 0
     ∷ case 0x08 0x3ff0_0000_0000_0000 6 0
@@ -134,22 +108,14 @@ raw =
     ∷ case 0x82 0xfff0_0000_0000_0000 0 0x8000_0000_0000_0000
     ∷ case 0x81 0x7ff8_0000_0000_0000 0 0x7ff0_0000_0000_0000  -- a NaN's own bits
     ∷ case 0x82 0x7ff8_0000_0000_0000 0 0x3fe0_0000_0000_0000
-    ∷ case 0x89 0x0000_0000_0000_0000 0 0x1ff8_0000_0000_0000
-    ∷ case 0x89 0x8000_0000_0000_0000 0 0x5ff8_0000_0000_0000
-    ∷ case 0x89 0x0000_0000_0000_0001 0 0x1ff8_0000_0000_0000
-    ∷ case 0x89 0x0000_0000_0000_0002 0 0x1ff8_0000_0000_0001
-    ∷ case 0x89 0x4010_0000_0000_0000 0 0x4000_0000_0000_0000
-    ∷ case 0x89 0x7ff0_0000_0000_0000 0 0x5ff0_0000_0000_0000
-    ∷ case 0x89 0x7ff0_0000_0000_0001 0 0x7ff8_0000_0000_0000
-    ∷ case 0x89 0xffff_ffff_ffff_ffff 0 0x7ff8_0000_0000_0000
-    ∷ case 0x89 0x8000_0000_0000_0001 0 0x7ff8_0000_0000_0000
-    ∷ case 0x89 0xfff0_0000_0000_0000 0 0x7ff8_0000_0000_0000
-    ∷ case 0x8b 0x0000_0000_0000_0000 0 0x7fe0_0000_0000_0000
-    ∷ case 0x8b 0x8000_0000_0000_0000 0 0xffe0_0000_0000_0000
-    ∷ case 0x8b 0x7fe0_0000_0000_0000 0 0x0000_0000_0000_0000
-    ∷ case 0x8b 0x7fe0_0000_0000_0001 0 0xffff_ffff_ffff_ffff
-    ∷ case 0x8b 0x7ff0_0000_0000_0000 0 0xfff0_0000_0000_0000
-    ∷ case 0x8b 0xffff_ffff_ffff_ffff 0 0x7fe0_0000_0000_0001
+    ∷ case 0x89 0x0000_0000_0000_0000 0 0x1ff8_0000_0000_0000 ∷ case 0x89 0x8000_0000_0000_0000 0 0x5ff8_0000_0000_0000
+    ∷ case 0x89 0x0000_0000_0000_0001 0 0x1ff8_0000_0000_0000 ∷ case 0x89 0x0000_0000_0000_0002 0 0x1ff8_0000_0000_0001
+    ∷ case 0x89 0x4010_0000_0000_0000 0 0x4000_0000_0000_0000 ∷ case 0x89 0x7ff0_0000_0000_0000 0 0x5ff0_0000_0000_0000
+    ∷ case 0x89 0x7ff0_0000_0000_0001 0 0x7ff8_0000_0000_0000 ∷ case 0x89 0xffff_ffff_ffff_ffff 0 0x7ff8_0000_0000_0000
+    ∷ case 0x89 0x8000_0000_0000_0001 0 0x7ff8_0000_0000_0000 ∷ case 0x89 0xfff0_0000_0000_0000 0 0x7ff8_0000_0000_0000
+    ∷ case 0x8b 0x0000_0000_0000_0000 0 0x7fe0_0000_0000_0000 ∷ case 0x8b 0x8000_0000_0000_0000 0 0xffe0_0000_0000_0000
+    ∷ case 0x8b 0x7fe0_0000_0000_0000 0 0x0000_0000_0000_0000 ∷ case 0x8b 0x7fe0_0000_0000_0001 0 0xffff_ffff_ffff_ffff
+    ∷ case 0x8b 0x7ff0_0000_0000_0000 0 0xfff0_0000_0000_0000 ∷ case 0x8b 0xffff_ffff_ffff_ffff 0 0x7fe0_0000_0000_0001
     ∷ case 0x8b 0xbff0_0000_0000_0000 0 0xbff0_0000_0000_0000
     ∷ []
 

@@ -206,3 +206,8 @@ inv-bound-by-size f w l i = go (negative f w) refl
         subst (λ (x : ℕ). InvBound f x (invWord f x)) (from-magnitude f w l e)
         (rw (inv-sign f m (omega (arith, magnitude-lt f w))) (bound-turned f m (invWord f m) (inv-bound f m i)))
     go false e = subst (λ (x : ℕ). InvBound f x (invWord f x)) (positive f w e) (inv-bound f m i)
+
+-- what an answer that is the definition's promises, at either width: its steps, its bound and its sign
+pub inv-promises : (f : Format) (w r : ℕ) → w < 2 * top f → r ≡ invWord f w
+    → (r ≡ invWord f w) × ((Invertible f (magnitude f w) → InvBound f w r) × (invWord f (turnedWord f w) ≡ turnedWord f r))
+inv-promises f w r l e = (e, (λ i. subst (InvBound f w) (sym e) (inv-bound-by-size f w l i), inv-sign f w l ∙ ap (turnedWord f) (sym e)))

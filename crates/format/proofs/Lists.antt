@@ -1,11 +1,15 @@
--- A number that is none of the keys of a `match` before its last arm is not in the list of them. Assumes nothing.
-use Prim.Native.Nat.{ℕ}
+-- A number that is none of the keys of a `match` before its last arm is not in the list of them; and a row of a table is the same whatever
+-- stands for one past its end. Assumes nothing.
+use Prim.Native.Nat.{ℕ, zero, suc, _<_}
+use native.Mathlib.Omega.{arith}
+use native.Mathlib.Nat.{le-of-suc-le-suc}
 use mathlib.Core.Path.{_≡_, refl}
 use mathlib.Core.Logic.{inl, inr}
 use mathlib.Core.Bool.{false, _||_}
 use mathlib.Core.List.{List, [], _∷_}
 use borrow.Author.Tests.{ne-eqb}
 use lib.Dec.{eqb}
+use lib.ListN.{length, getD}
 use types.Run.{OneOf}
 use Rattle.format.specs.First.{among}
 
@@ -33,3 +37,9 @@ any-key k (l ∷ ks) x n = rw (ne-eqb x k (λ e. n (inl e))) (any-key l ks x (λ
 pub none-listed : (ks : List ℕ) (x : ℕ) → (OneOf ks x → ⊥) → among ks x ≡ false
 none-listed [] x n = refl
 none-listed (k ∷ ks) x n = any-key k ks x n
+
+-- a row of a table
+pub same-row : {A : Type 0} (rows : List A) (d e : A) (n : ℕ) → n < length rows → getD rows n d ≡ getD rows n e
+same-row [] d e n h = absurd (let z : ⊥ = omega arith in z)
+same-row (r ∷ rows) d e zero h = refl
+same-row (r ∷ rows) d e (suc n) h = same-row rows d e n (le-of-suc-le-suc h)

@@ -13,8 +13,7 @@ abbrev μ-loop : tie.MeasureT-loop
 
 pub number-spec : {M : Type 1} → statement M
 number-spec =
-    tie.close
-    (tie.spec
+    let met = tie.spec
     Inv-loop
     μ-loop
     (λ c. tt)
@@ -23,4 +22,5 @@ number-spec =
     (λ c. search needs)
     (λ c. search needs)
     (λ c. tt)
-    (λ c. search needs))
+    (λ c. search needs) in
+    tie.close met

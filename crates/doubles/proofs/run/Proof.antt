@@ -12,8 +12,7 @@ abbrev μ-loop : tie.MeasureT-loop
 
 pub run-spec : {M : Type 1} → statement M
 run-spec =
-    tie.close
-    (tie.spec
+    let met = tie.spec
     Inv-loop
     μ-loop
     (λ c. tt)
@@ -22,4 +21,5 @@ run-spec =
     (λ c. omega arith)
     (λ c. omega arith)
     (λ c. tt)
-    (λ c. search needs))
+    (λ c. search needs) in
+    tie.close met

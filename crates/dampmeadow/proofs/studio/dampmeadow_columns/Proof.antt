@@ -7,9 +7,9 @@ use Rattle.dampmeadow.proofs.studio.dampmeadow_columns.Tie as tie
 
 pub dampmeadow-columns-spec : {M : Type 1} → statement M
 dampmeadow-columns-spec =
-    tie.close
-    (tie.spec
+    let met = tie.spec
     (λ c κs. search needs)
     (λ c.
     let e = c .span .ensures in
-    (ap (λ (p : Part). p .retouched) e, (ap (λ (p : Part). p .from) e, ap (λ (p : Part). p .to) e))))
+    (ap (λ (p : Part). p .retouched) e, (ap (λ (p : Part). p .from) e, ap (λ (p : Part). p .to) e))) in
+    tie.close met

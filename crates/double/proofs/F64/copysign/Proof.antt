@@ -5,4 +5,6 @@ use Rattle.double.proofs.F64.copysign.Statement.{statement}
 use Rattle.double.proofs.F64.copysign.Tie as tie
 
 pub copysign-spec : {M : Type 1} → statement M
-copysign-spec = tie.close (tie.spec (λ c. signed-like binary64 (c .before .before .args .self .0) (c .before .before .args .sign .0) (c .struct-known2 .given .0 .fits)))
+copysign-spec =
+    let met = tie.spec (λ c. signed-like binary64 (c .before .before .args .self .0) (c .before .before .args .sign .0) (c .struct-known2 .given .0 .fits)) in
+    tie.close met

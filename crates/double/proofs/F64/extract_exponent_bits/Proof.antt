@@ -5,4 +5,6 @@ use Rattle.double.proofs.F64.extract_exponent_bits.Statement.{statement
 use Rattle.double.proofs.F64.extract_exponent_bits.Tie as tie
 
 pub extract-exponent-bits-spec : {M : Type 1} → statement M
-extract-exponent-bits-spec = tie.close (tie.spec (λ c. field-down binary64 (c .before .args .self .0)))
+extract-exponent-bits-spec =
+    let met = tie.spec (λ c. field-down binary64 (c .before .args .self .0)) in
+    tie.close met

@@ -10,8 +10,8 @@ use Rattle.double.proofs.F64.of.Tie as tie
 
 pub of-spec : {M : Type 1} → statement M
 of-spec =
-    tie.close
-    (tie.spec
+    let met = tie.spec
     (λ c. no-nan (c .before .args .x) (c .if1 .left))
     (λ c. sym (ap (toBits binary64) (differs-from-itself (c .before .args .x) (subst T (sym (c .if1 .taken)) tt)) ∙ nan-written binary64))
-    (λ c. search needs))
+    (λ c. search needs) in
+    tie.close met

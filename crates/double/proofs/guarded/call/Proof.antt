@@ -18,8 +18,7 @@ missing op a e = rw e (refused 6 (valueOf op a) (suc-ne-zero 5))
 
 pub call-spec : {M : Type 1} → statement M
 call-spec =
-    tie.close
-    (tie.spec
+    let met = tie.spec
     (λ c κs. search needs)
     (λ c κs. search needs)
     (λ c κs. search needs)
@@ -28,4 +27,5 @@ call-spec =
     (λ c. rw (c .before .match .keys2) (c .fract .ensures .0))
     (λ c. rw (c .before .match .keys3) (c .sqrt .ensures .0))
     (λ c. rw (c .before .match .keys4) (c .inv .ensures .0))
-    (λ c. missing (c .before .args .op) (c .before .args .a) (unlisted (0x01 ∷ 0x02 ∷ 0x09 ∷ 0x0b ∷ []) (c .before .args .op) (c .match .rest))))
+    (λ c. missing (c .before .args .op) (c .before .args .a) (unlisted (0x01 ∷ 0x02 ∷ 0x09 ∷ 0x0b ∷ []) (c .before .args .op) (c .match .rest))) in
+    tie.close met

@@ -34,8 +34,7 @@ past-sign c =
 pub first-spec : {M : Type 1} → statement M
 unfolding refusalBehind
 first-spec =
-    tie.close
-    (tie.spec
+    let met = tie.spec
     (λ c κs. search needs)
     (λ c. rw (sym (c .before .is-endless .ensures) ∙ c .if1 .taken))
     (λ c κs. search needs)
@@ -51,4 +50,5 @@ first-spec =
     rw (past-1 (d .before .before), past-2 d, past-3 e, sym (c .before .is-sign-refused .ensures) ∙ c .if4 .taken))
     (λ c κs. search needs)
     (λ c. sym (past-sign (c .before .before) ∙ rw (sym (c .before .passes .ensures) ∙ c .if5 .taken)))
-    (λ c. sym (past-sign (c .before .before) ∙ rw (sym (c .before .passes .ensures) ∙ c .if5 .left))))
+    (λ c. sym (past-sign (c .before .before) ∙ rw (sym (c .before .passes .ensures) ∙ c .if5 .left))) in
+    tie.close met

@@ -4,4 +4,6 @@ use Rattle.double.proofs.refusal.is_small_refused.Statement.{statement}
 use Rattle.double.proofs.refusal.is_small_refused.Tie as tie
 
 pub is-small-refused-spec : {M : Type 1} → statement M
-is-small-refused-spec = tie.close (tie.spec (λ c κs. search needs) (λ c. rw (c .is-small .ensures)))
+is-small-refused-spec =
+    let met = tie.spec (λ c κs. search needs) (λ c. rw (c .is-small .ensures)) in
+    tie.close met

@@ -1,22 +1,12 @@
 -- `float::F32::inv` meets its contract: the subtraction is the definition's, and its bound and its sign are the format's laws. Assumes
 -- nothing.
-use Prim.Native.Nat.{_^_, _<_}
 use borrow.Author.Needs.{needs}
-use mathlib.Core.Path.{sym, ap, subst, _∙_}
 use lib.Ieee.{binary32}
-use Rattle.format.specs.Sign.{turnedWord}
-use Rattle.format.specs.Estimates.{InvBound}
-use Rattle.format.proofs.Inv.{inv-sign, inv-bound-by-size}
+use Rattle.format.proofs.Inv.{inv-promises}
 use Rattle.float.proofs.F32.inv.Statement.{statement}
 use Rattle.float.proofs.F32.inv.Tie as tie
 
 pub inv-spec : {M : Type 1} → statement M
 inv-spec =
-    let met = tie.spec
-    (λ c κs. search needs)
-    (λ c.
-    let w = c .before .args .self .0 in
-    let e = c .difference .ensures in
-    let l : w < 2 ^ 32 = search needs in
-    (e, (λ i. subst (InvBound binary32 w) (sym e) (inv-bound-by-size binary32 w l i), inv-sign binary32 w l ∙ ap (turnedWord binary32) (sym e)))) in
+    let met = tie.spec (λ c κs. search needs) (λ c. inv-promises binary32 (c .before .args .self .0) _ (search needs) (c .difference .ensures)) in
     tie.close met
