@@ -1,13 +1,19 @@
 -- Both sides of every edge of the guarded doubles, and what the raw kernels answer at the ends: one computed test tries each table.
 -- Assumes nothing.
 use Prim.Native.Nat.{ℕ}
+use native.Mathlib.Omega.{arith}
 use mathlib.Core.Path.{_≡_, refl}
-use mathlib.Core.Bool.{Bool, true, cond, _&&_}
-use mathlib.Core.List.{List, [], _∷_}
+use mathlib.Core.Bool.{Bool, true, false, _&&_}
+use mathlib.Core.List.{List, [], _∷_, map}
+use borrow.Author.Tests.{le-leb}
 use lib.Dec.{eqb}
-use lib.Ieee.{size, le, lt, eq, ofBits}
+use lib.Ieee.{binary64, size, le, lt, eq, ofBits}
+use Rattle.format.specs.Fields.{magnitude}
+use Rattle.format.specs.Value.{Finite}
 use Rattle.format.specs.Parts.{written}
-use Rattle.double.specs.Refusals.{refusalBehind}
+use Rattle.format.proofs.Classes.{under-infinity}
+use Rattle.double.specs.Operations.{opSqrt, opInv, isKnown, isRaw, valueOf}
+use Rattle.double.specs.Refusals.{unbounded, gateOf, passes, refusalBehind, refusalOf}
 use Rattle.double.specs.Words.{doubleRefusal, doubleWord}
 
 -- an operation's number and its operand, with the refusal and the word that it answers
@@ -126,3 +132,33 @@ guarded-edges = refl
 pub raw-ends : right raw ≡ true
 unfolding right raw refusalBehind written size le lt eq ofBits
 raw-ends = refl
+
+-- ---- the lists and the gates by themselves
+
+-- which numbers doubles have, guarded and raw, among those beside them
+pub known-numbers : map isKnown (0x00 ∷ 0x01 ∷ 0x02 ∷ 0x03 ∷ 0x08 ∷ 0x09 ∷ 0x0a ∷ 0x0b ∷ 0x0c ∷ 0x81 ∷ []) ≡ false ∷ true ∷ true ∷ false ∷ false ∷ true ∷ false ∷ true ∷ false ∷ false ∷ []
+known-numbers = refl
+
+pub raw-numbers : map isRaw (0x80 ∷ 0x81 ∷ 0x82 ∷ 0x83 ∷ 0x88 ∷ 0x89 ∷ 0x8a ∷ 0x8b ∷ 0x8c ∷ 0x01 ∷ []) ≡ false ∷ true ∷ true ∷ false ∷ false ∷ true ∷ false ∷ true ∷ false ∷ false ∷ []
+raw-numbers = refl
+
+pub gate-words : map gateOf (0x01 ∷ 0x02 ∷ 0x0b ∷ []) ≡ 0x43ef_ffff_ffff_ffff ∷ 0x43ef_ffff_ffff_ffff ∷ 0x7fd0_0000_0000_0000 ∷ []
+gate-words = refl
+
+-- where a row has no bound, every finite word passes
+pub finite-passes : (w : ℕ) → Finite binary64 w → passes unbounded w ≡ true
+finite-passes w h = le-leb (magnitude binary64 w) unbounded (let l = under-infinity binary64 w h in omega arith)
+
+-- the zeros and what is beside them, of sqrt and of inv
+pub sqrt-in-order : map (refusalOf opSqrt) (0x0000_0000_0000_0000 ∷ 0x8000_0000_0000_0000 ∷ 0x0000_0000_0000_0001 ∷ 0x8000_0000_0000_0001 ∷ 0x8010_0000_0000_0000 ∷ 0xfff0_0000_0000_0000 ∷ [])
+    ≡ 0 ∷ 0 ∷ 9 ∷ 9 ∷ 3 ∷ 1 ∷ []
+unfolding refusalBehind
+sqrt-in-order = refl
+
+pub inv-in-order : map (refusalOf opInv) (0x0000_0000_0000_0000 ∷ 0x8000_0000_0000_0000 ∷ 0x0000_0000_0000_0001 ∷ 0x8000_0000_0000_0001 ∷ 0x8010_0000_0000_0000 ∷ 0xffd0_0000_0000_0001 ∷ 0xfff0_0000_0000_0000 ∷ [])
+    ≡ 2 ∷ 2 ∷ 9 ∷ 9 ∷ 0 ∷ 4 ∷ 1 ∷ []
+unfolding refusalBehind
+inv-in-order = refl
+
+pub root-of-zero : map (valueOf opSqrt) (0x0000_0000_0000_0000 ∷ 0x8000_0000_0000_0000 ∷ []) ≡ 0x0000_0000_0000_0000 ∷ 0x8000_0000_0000_0000 ∷ []
+root-of-zero = refl

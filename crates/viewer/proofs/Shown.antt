@@ -4,12 +4,12 @@ use Prim.Native.Nat.{ℕ, _+_, _-_, _*_}
 use native.Mathlib.Nat.{zero-add}
 use mathlib.Core.Path.{_≡_, refl, ap}
 use mathlib.Core.Bool.{Bool, true, false, cond, not, _&&_}
-use mathlib.Core.List.{List, [], _∷_}
+use mathlib.Core.List.{List, [], _∷_, map}
 use lib.Dec.{eqb}
 use lib.ListN.{length, take, drop}
 use denote.Ref.{RefT, ptr, now}
 use Rattle.viewer.specs.declared.Part.{Part}
-use Rattle.viewer.specs.View.{within, spanOf, viewed, placeIn}
+use Rattle.viewer.specs.View.{within, nothing, spanOf, viewed, placeIn}
 
 -- ---- by law
 
@@ -39,6 +39,15 @@ module _ (scan retouch : RefT (List ℕ)) (retouched : Bool) (from to : ℕ) whe
           → viewed (now scan) (now retouch) t from to ≡ take (to - from) (drop from (now (cond t retouch scan)))
       by-row true d = rw d
       by-row false d = rw d
+
+-- ---- by words: what is in order and not past the end of five columns, and what is shown where nothing is
+
+pub within-five : map (λ (e : ℕ × ℕ). within (e .0) (e .1) 5) ((0, 5) ∷ (5, 5) ∷ (2, 2) ∷ (0, 0) ∷ (4, 5) ∷ (0, 6) ∷ (6, 6) ∷ (3, 2) ∷ (5, 0) ∷ [])
+    ≡ true ∷ true ∷ true ∷ true ∷ true ∷ false ∷ false ∷ false ∷ false ∷ []
+within-five = refl
+
+pub nothing-is-the-scans : nothing ≡ record { retouched = false; from = 0; to = 0 }
+nothing-is-the-scans = refl
 
 -- ---- by a table: the lengths of the two rows, the flag and the columns asked for; and the span
 
@@ -77,9 +86,17 @@ scanned = record { ptr = (7, 40); name = 0; now = 10 ∷ 11 ∷ 12 ∷ [] }
 abbrev pub retouched : RefT (List ℕ)
 retouched = record { ptr = (8, 80); name = 1; now = 20 ∷ 21 ∷ 22 ∷ 23 ∷ [] }
 
-abbrev Shows : Bool → ℕ → ℕ → List ℕ → ℕ × ℕ → Type 0
-Shows t from to words place = (viewed (now scanned) (now retouched) t from to ≡ words) × (placeIn scanned retouched (spanOf 3 4 t from to) ≡ place)
+-- the flag and the columns asked for
+abbrev pub asked : List (Bool × ℕ × ℕ)
+asked = (false, 1, 3) ∷ (true, 1, 4) ∷ (true, 0, 1) ∷ (true, 4, 4) ∷ (false, 1, 4) ∷ (true, 3, 5) ∷ (true, 2, 1) ∷ []
 
-pub rows : Shows false 1 3 (11 ∷ 12 ∷ []) (7, 44) × Shows true 1 4 (21 ∷ 22 ∷ 23 ∷ []) (8, 84) × Shows true 0 1 (20 ∷ []) (8, 80) × Shows true 4 4 [] (8, 96)
-    × Shows false 1 4 [] (7, 40) × Shows true 3 5 [] (7, 40) × Shows true 2 1 [] (7, 40)
-rows = ((refl, refl), (refl, refl), (refl, refl), (refl, refl), (refl, refl), (refl, refl), (refl, refl))
+pub words : map (λ (e : Bool × ℕ × ℕ). viewed (now scanned) (now retouched) (e .0) (e .1) (e .2)) asked
+    ≡ (11 ∷ 12 ∷ []) ∷ (21 ∷ 22 ∷ 23 ∷ []) ∷ (20 ∷ []) ∷ [] ∷ [] ∷ [] ∷ [] ∷ []
+words = refl
+
+pub places : map (λ (e : Bool × ℕ × ℕ). placeIn scanned retouched (spanOf 3 4 (e .0) (e .1) (e .2))) asked
+    ≡ (7, 44) ∷ (8, 84) ∷ (8, 80) ∷ (8, 96) ∷ (7, 40) ∷ (7, 40) ∷ (7, 40) ∷ []
+places = refl
+
+pub place-of : (placeIn scanned retouched (record { retouched = false; from = 2; to = 3 }) ≡ (7, 48)) × (placeIn scanned retouched (record { retouched = true; from = 3; to = 3 }) ≡ (8, 92))
+place-of = (refl, refl)

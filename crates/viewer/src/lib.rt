@@ -1,5 +1,6 @@
 // The row on screen: columns of the scanned row or of the retouched one, lent back without a copy.
 ghost use mathlib.Core.Path.{_≡_};
+ghost use mathlib.Core.Bool.{cond};
 ghost use lib.ListN.{length};
 ghost use denote.Ref.{ptr};
 ghost use Rattle.viewer.specs.View.{spanOf, viewed, placeIn};
@@ -23,27 +24,25 @@ const NOTHING: Part = Part {
 pub fn span(scan: usize, retouch: usize, retouched: bool, from: usize, to: usize) -> Part
     ensures { λ r. ⌜ r ≡ spanOf scan retouch retouched from to ⌝ }
 {
-    if to < from {
-        return NOTHING;
-    }
-    if retouched {
-        if retouch < to {
-            return NOTHING;
-        }
+    let length = length_of(scan, retouch, retouched);
+    if (from <= to) & (to <= length) {
         return Part {
-            retouched: true,
-            from: from,
-            to: to,
+            retouched,
+            from,
+            to,
         };
     }
-    if scan < to {
-        return NOTHING;
+    NOTHING
+}
+
+// The length of the row chosen.
+fn length_of(scan: usize, retouch: usize, retouched: bool) -> usize
+    ensures { λ r. ⌜ r ≡ cond retouched retouch scan ⌝ }
+{
+    if retouched {
+        return retouch;
     }
-    Part {
-        retouched: false,
-        from: from,
-        to: to,
-    }
+    scan
 }
 
 // That part itself: what stands in it, and in the row's own memory. The empty part of a refused call
