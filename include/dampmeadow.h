@@ -12,12 +12,13 @@
  *
  * It keeps nothing between calls, so any number of threads may call it at once, each with memory of its own to be written: two
  * threads must not offer to one record of grain at once. It counts on the processor's usual float settings, in all calls but
- * those of dampmeadow_soft.h: rounding to nearest, and numbers too small to be normal kept as they are. (A program linked with
- * -ffast-math may start with other settings, and then the answers are not ours: docs/GUIDE.md has what changes.)
+ * dampmeadow_columns and those of dampmeadow_soft.h: rounding to nearest, and numbers too small to be normal kept as they are.
+ * (A program linked with -ffast-math may start with other settings, and then the answers are not ours: docs/GUIDE.md has what
+ * changes.)
  *
  * A float goes in and comes out as its 32 bits, its "word": 4.0f is 0x40800000. dampmeadow_bits and dampmeadow_float, below,
  * go from one to the other. Words, and not floats, because a NaN's bits may change when it is handed on as a float. Only the
- * mean and the sum in a record of grain are floats.
+ * mean and the sum in a record of grain are floats. A double is its 64 bits in the same way, in dampmeadow_double alone.
  */
 #ifndef DAMPMEADOW_H
 #define DAMPMEADOW_H
@@ -27,6 +28,9 @@
 #endif
 
 #include "dampmeadow_soft.h"
+#ifndef __cplusplus
+#include <stdbool.h>
+#endif
 #include <stddef.h>
 #include <stdint.h>
 #include <string.h>
@@ -40,7 +44,8 @@ extern "C" {
  * Each kernel has a number for its guarded form. The guarded form takes what is written beside it, finite numbers only, and
  * refuses the rest; it never answers with a NaN. (A formula of kernels may come to one: see dampmeadow_recipe.) "Above 0" and
  * "not 0" leave out the numbers that are too small to be normal too: those of a size under 2^-126. The example is a guarded
- * call and its answer.
+ * call and its answer. All this is of floats: what trunc, fract, sqrt and inv take as kernels on doubles, and give, is told at
+ * dampmeadow_double.
  *
  * From sqrt to tan they are estimates, as they are in micromath: quick rather than close. sqrt may be some 6 percent too large
  * and inv, in size, 12.5; hypot of 3 and 4 is 5.125 here, and sqrt of 2 is 1.5. As x grows sqrt never falls, and above 0
@@ -112,8 +117,9 @@ enum dampmeadow_operation {
  * Where more than one of them holds, the first in the column "looked at" is given. Raw forms are never refused with 1 to 5
  * or with 9. 8 is given by dampmeadow_answer alone, 10 by dampmeadow_strip alone, 11 and 12 by dampmeadow_grain_offer alone,
  * and 13 to 15 by dampmeadow_recipe alone. An offer gives 1 and 4 too, for the sample, and they are looked at in the order 12,
- * 1, 4, 11. A recipe has those of its kernels too, 1, 2, 9, 3 and 4, where none of 13, 14 and 15 holds. Later versions have
- * more of them: take every number but 0 for a refusal.
+ * 1, 4, 11. A recipe has those of its kernels too, 1, 2, 9, 3 and 4, where none of 13, 14 and 15 holds. dampmeadow_double gives
+ * 6, 1, 2, 9, 3 and 4, looked at in this order, which is the column's. Later versions have more of them: take every number but
+ * 0 for a refusal.
  */
 enum dampmeadow_refusal {                  /* looked at    given when                                                 */
     DAMPMEADOW_ANSWERED = 0,               /*              there is an answer                                         */
@@ -124,7 +130,7 @@ enum dampmeadow_refusal {                  /* looked at    given when           
     DAMPMEADOW_OUTSIDE = 4,                /* seventh      outside what the operation takes, as listed above; or a    */
                                            /*              sample's size is above 2^20                                */
     DAMPMEADOW_POWER_OUTSIDE = 5,          /* last         powi's power is below -1048576 or above 1048576            */
-    DAMPMEADOW_NO_SUCH_OPERATION = 6,      /* second       no operation has this number                               */
+    DAMPMEADOW_NO_SUCH_OPERATION = 6,      /* second       no operation has this number, or none that takes a double  */
     DAMPMEADOW_MALFORMED = 7,              /* first        the line is no frame; or, after 6 and before 1, the second */
                                            /*              word is not used by this operation and is not 0            */
     DAMPMEADOW_NO_ROOM = 8,                /* before all   the space for the answer has fewer than 11 bytes           */
@@ -361,6 +367,64 @@ uint32_t dampmeadow_answer(const uint8_t *line, size_t length, uint8_t *space, s
  */
 uint64_t dampmeadow_recipe(const uint8_t *line, size_t length, uint32_t x);
 
+/* Calls a kernel on a double, by the number that the same kernel has on a float. These kernels are Dampmeadow's own, after
+ * micromath's at 32 bits.
+ *
+ * In:   op, one of the four below, with DAMPMEADOW_RAW added for its raw form. a, the double's word, its 64 bits; any word.
+ *       value, where the answer's word is to be put: one place, and the pointer is not NULL.
+ * Back: the refusal, 0 where there is an answer, which is then at value. With a refusal 0 is put there. The refusals are the
+ *       first that holds of 6, for every other op; 1, for an infinity or a NaN; and those of the table, 2, 9, 3 and 4.
+ *
+ *   op                 guarded, takes                      refuses        gives
+ *   DAMPMEADOW_TRUNC   |x| under 2^64                      4              the whole part, toward 0, with x's sign
+ *   DAMPMEADOW_FRACT   |x| under 2^64                      4              what trunc leaves, with x's sign
+ *   DAMPMEADOW_SQRT    0, -0, or x from 2^-1022 on         9, 3           about the square root, of a zero that zero
+ *   DAMPMEADOW_INV     |x| from 2^-1022 to 2^1022          2, 9, 4        about 1/x
+ *
+ *       9 is for a number that is not 0 and too small to be normal: a size under 2^-1022. trunc and fract take such a number
+ *       as it is. 3 is for a number below 0, which -0 is not. A guarded form never answers with a NaN.
+ *       trunc and fract are exact. sqrt and inv are estimates: the square of what sqrt gives is from x(1 - 1/2^52) to 9x/8,
+ *       and x times what inv gives is from 1 to 9/8. As x grows sqrt never falls, and of 2^(2k) it is 2^k, exactly; above 0
+ *       inv falls from each number to the next. inv of -x is that of x with the other sign.
+ *
+ *       A raw form answers every word. Where the guarded form answers it gives the same, but for sqrt of a zero. trunc drops
+ *       the bits below the point, and fract keeps them alone; from 2^64 on both count the places of the point modulo 64, for an
+ *       infinity and a NaN too, and mean nothing. sqrt is half the sum of the word and that of 1, 0x3ff0000000000000, rounded
+ *       down: of 0 it is 0x1ff8000000000000, and of -0 0x5ff8000000000000. Of a NaN and of a number below 0 it is a NaN,
+ *       0x7ff8000000000000. inv is 0x7fe0000000000000 less the word, modulo 2^64; turning x's sign bit turns the answer's and
+ *       nothing else, whatever the word.
+ *
+ *   uint64_t value;
+ *   dampmeadow_double(DAMPMEADOW_TRUNC, 0xc004000000000000, &value) == 0      of -2.5: value is 0xc000000000000000, -2
+ *   dampmeadow_double(DAMPMEADOW_FRACT, 0xc004000000000000, &value) == 0      of -2.5: value is 0xbfe0000000000000, -0.5
+ *   dampmeadow_double(DAMPMEADOW_SQRT, 0x4010000000000000, &value) == 0       of 4: value is 0x4000000000000000, 2
+ *   dampmeadow_double(DAMPMEADOW_SQRT, 0xbff0000000000000, &value) == 3       of -1: value is 0
+ *   dampmeadow_double(DAMPMEADOW_INV, 0x3ff8000000000000, &value) == 0        of 1.5: value is 0x3fe8000000000000, 0.75
+ *   dampmeadow_double(DAMPMEADOW_COS, 0x3ff0000000000000, &value) == 6        no such kernel on doubles: value is 0
+ *   dampmeadow_double(DAMPMEADOW_RAW + DAMPMEADOW_SQRT, 0, &value) == 0       of 0, raw: value is 0x1ff8000000000000
+ */
+uint32_t dampmeadow_double(uint32_t op, uint64_t a, uint64_t *value);
+
+/* ---- The row on screen */
+
+/* Which columns of which row are on screen: those of the scanned row, or of the retouched one.
+ *
+ * In:   scan and retouch, how many columns each row has; retouched, whether the retouched row is chosen; from and to, the
+ *       columns asked for, from the first up to the last, which is not among them. Any numbers may be given.
+ *       first and last, where the columns are to be put: two places, and neither pointer is NULL.
+ * Back: whether the columns are the retouched row's. Where from <= to and to is no more than the columns of the row chosen,
+ *       that is retouched, and first and last are from and to. Else it is false, and first and last are 0 and 0: nothing of the
+ *       scanned row. So first <= last holds always, and last is no more than the columns of the row that is told: what lies
+ *       from row + first up to row + last is that row's own memory, and nothing has to be copied or looked at again.
+ *
+ *   size_t first, last;
+ *   dampmeadow_columns(6, 6, true, 2, 5, &first, &last) == true          of the retouched row: first is 2 and last 5
+ *   dampmeadow_columns(6, 6, false, 2, 5, &first, &last) == false        of the scanned row: first is 2 and last 5
+ *   dampmeadow_columns(6, 4, true, 2, 5, &first, &last) == false         past the end: first and last are 0
+ *   dampmeadow_columns(6, 6, true, 5, 2, &first, &last) == false         out of order: first and last are 0
+ */
+bool dampmeadow_columns(size_t scan, size_t retouch, bool retouched, size_t from, size_t to, size_t *first, size_t *last);
+
 /* ---- The second engine
  *
  * dampmeadow_soft.h, which is included above, has dampmeadow_soft_add, _sub, _mul and _div, the arithmetic of floats worked out
@@ -383,6 +447,22 @@ static inline uint32_t dampmeadow_bits(float number)
 static inline float dampmeadow_float(uint32_t word)
 {
     float number;
+    memcpy(&number, &word, sizeof number);
+    return number;
+}
+
+/* The word of a double: dampmeadow_double_bits(4.0) == 0x4010000000000000 */
+static inline uint64_t dampmeadow_double_bits(double number)
+{
+    uint64_t word;
+    memcpy(&word, &number, sizeof word);
+    return word;
+}
+
+/* The double of a word: dampmeadow_double_of(0x4010000000000000) == 4.0 */
+static inline double dampmeadow_double_of(uint64_t word)
+{
+    double number;
     memcpy(&number, &word, sizeof number);
     return number;
 }

@@ -1,5 +1,6 @@
 /* The headers' examples, from C: each call beside the answer that is due. Says which are wrong and exits with 1 if any is. The
- * recipes are in recipes.c, order and oddness in order.c, and the second engine is in soft.c. */
+ * recipes are in recipes.c, order and oddness in order.c, doubles and the row on screen in doubles.c, and the second engine is
+ * in soft.c. */
 #include "dampmeadow.h"
 #include "hold.h"
 #include <inttypes.h>
@@ -412,6 +413,8 @@ int main(void)
 
     order();
     recipes();
+    doubles();
+    columns();
     second_engine();
 
     hold("the refusal of an answer", dampmeadow_refusal_of(0x300000000), DAMPMEADOW_NEGATIVE);

@@ -114,6 +114,30 @@ void offers(const char *what, dampmeadow_grain grain, const std::vector<Offer> &
                 double(due.mean), double(due.sum));
 }
 
+// A kernel on doubles, into a place that holds another word before. The words are compared, as above.
+void doubled(const char *what, uint32_t op, double x, uint32_t refusal, double number)
+{
+    tried++;
+    uint64_t value = 99;
+    const uint32_t got = dampmeadow_double(op, dampmeadow_double_bits(x), &value);
+    if (got == refusal && value == dampmeadow_double_bits(number)) return;
+    wrong++;
+    std::printf("%s: refusal %u, %.17g, and refusal %u, %.17g is due\n", what, unsigned(got), dampmeadow_double_of(value), unsigned(refusal), number);
+}
+
+// Columns of a scanned row or of a retouched one: which row is told, and then the part, which has to be in that row's memory.
+void shows(const char *what, const std::vector<int> &scan, const std::vector<int> &retouch, bool retouched, std::size_t from, std::size_t to, bool of_retouch, std::vector<int> due)
+{
+    tried++;
+    std::size_t first = 99, last = 99;
+    const bool told = dampmeadow_columns(scan.size(), retouch.size(), retouched, from, to, &first, &last);
+    const std::vector<int> &row = told ? retouch : scan;
+    const bool within = first <= last && last <= row.size();
+    if (told == of_retouch && within && std::vector<int>(row.data() + first, row.data() + last) == due) return;
+    wrong++;
+    std::printf("%s: %u to %u of the %s row\n", what, unsigned(first), unsigned(last), told ? "retouched" : "scanned");
+}
+
 // The words of some floats, and one word more, which is not lent: an empty vector may have NULL for its data.
 std::vector<uint32_t> words(const std::vector<float> &numbers)
 {
@@ -326,6 +350,36 @@ int main()
            {65536, last - 65536, 0.5f, 0.25f});
     offers("a record that is worn out", {65536, last - 65536, 0.5f, 0.25f}, none, {65536, last - 65536, 0.5f, 0.25f});
     offers("a record with more than all the offers", {1, last, 0.5f, 0.25f}, none, {1, last, 0.5f, 0.25f});
+    const double tiny = dampmeadow_double_of(0x000fffffffffffff), least = dampmeadow_double_of(0x0010000000000000); // about 2^-1022
+    const double largest = dampmeadow_double_of(0x7fd0000000000000), larger = dampmeadow_double_of(0x7fd0000000000001); // 2^1022
+    const double below = dampmeadow_double_of(0x43efffffffffffff), wide = dampmeadow_double_of(0x43f0000000000000); // about 2^64
+    doubled("trunc -2.5, a double", DAMPMEADOW_TRUNC, -2.5, DAMPMEADOW_ANSWERED, -2.0);
+    doubled("trunc -0.5, a double", DAMPMEADOW_TRUNC, -0.5, DAMPMEADOW_ANSWERED, -0.0);
+    doubled("trunc, the last double below 2^64", DAMPMEADOW_TRUNC, below, DAMPMEADOW_ANSWERED, below);
+    doubled("trunc -2^64, a double", DAMPMEADOW_TRUNC, -wide, DAMPMEADOW_OUTSIDE, 0.0);
+    doubled("fract -2.5, a double", DAMPMEADOW_FRACT, -2.5, DAMPMEADOW_ANSWERED, -0.5);
+    doubled("fract, a small double", DAMPMEADOW_FRACT, tiny, DAMPMEADOW_ANSWERED, tiny);
+    doubled("fract 2^64, a double", DAMPMEADOW_FRACT, wide, DAMPMEADOW_OUTSIDE, 0.0);
+    doubled("sqrt 4, a double", DAMPMEADOW_SQRT, 4.0, DAMPMEADOW_ANSWERED, 2.0);
+    doubled("sqrt -0, a double", DAMPMEADOW_SQRT, -0.0, DAMPMEADOW_ANSWERED, -0.0);
+    doubled("sqrt, a small double below 0", DAMPMEADOW_SQRT, -tiny, DAMPMEADOW_SMALL, 0.0);
+    doubled("sqrt -2^-1022, a double", DAMPMEADOW_SQRT, -least, DAMPMEADOW_NEGATIVE, 0.0);
+    doubled("inv -1.5, a double", DAMPMEADOW_INV, -1.5, DAMPMEADOW_ANSWERED, -0.75);
+    doubled("inv 2^-1022, a double", DAMPMEADOW_INV, least, DAMPMEADOW_ANSWERED, largest);
+    doubled("inv -2^1022, a double", DAMPMEADOW_INV, -largest, DAMPMEADOW_ANSWERED, -least);
+    doubled("inv, the first double above 2^1022", DAMPMEADOW_INV, larger, DAMPMEADOW_OUTSIDE, 0.0);
+    doubled("inv, a small double", DAMPMEADOW_INV, tiny, DAMPMEADOW_SMALL, 0.0);
+    doubled("inv -0, a double", DAMPMEADOW_INV, -0.0, DAMPMEADOW_ZERO, 0.0);
+    doubled("inv of an infinite double", DAMPMEADOW_INV, dampmeadow_double_of(0x7ff0000000000000), DAMPMEADOW_NOT_FINITE, 0.0);
+    doubled("raw inv, the first double above 2^1022", DAMPMEADOW_RAW + DAMPMEADOW_INV, larger, DAMPMEADOW_ANSWERED, tiny);
+    doubled("floor of a double", DAMPMEADOW_FLOOR, 2.5, DAMPMEADOW_NO_SUCH_OPERATION, 0.0);
+    const std::vector<int> scan = {10, 11, 12, 13}, retouch = {20, 21, 22};
+    shows("columns 1 to 3 of the scanned row", scan, retouch, false, 1, 3, false, {11, 12});
+    shows("columns 1 to 3 of the retouched row", scan, retouch, true, 1, 3, true, {21, 22});
+    shows("the whole of the scanned row", scan, retouch, false, 0, 4, false, {10, 11, 12, 13});
+    shows("no columns of the retouched row, at its end", scan, retouch, true, 3, 3, true, {});
+    shows("columns past the end of the retouched row", scan, retouch, true, 1, 4, false, {});
+    shows("columns out of order", scan, retouch, true, 3, 1, false, {});
     line("094080000000000000", "0040000000");
     line("a frame is eighteen digits", "0700000000");
     recipe("3f800000+sqrt(x)*x", 4.0f, 0, 9.0f);

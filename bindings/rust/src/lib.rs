@@ -25,9 +25,10 @@
 //! cast to an integer did to the number. [`powi_products`] counts the products of a power. [`call`] takes any operation by its
 //! number, [`strip`] the same over whole lists, and [`answer`] a frame, which is a line of text. A [`Grain`] is a record of
 //! samples, their running mean and spread, that is changed in place as each is offered. [`recipe`] works out a formula of
-//! kernels on a line of text, and what it gives may be a NaN. [`soft`] has a second engine, for a controller without floats:
-//! four operations and four kernels on words, with whole numbers alone. The library itself keeps nothing between calls, so they
-//! may be made from any thread.
+//! kernels on a line of text, and what it gives may be a NaN. [`double`] has four kernels on doubles, guarded and raw.
+//! [`columns`] lends the part of a scanned row, or of a retouched one, that is on screen. [`soft`] has a second engine, for a
+//! controller without floats: four operations and four kernels on words, with whole numbers alone. The library itself keeps
+//! nothing between calls, so they may be made from any thread.
 //!
 //! The build script finds the library, or proves and builds it, which takes a minute or two the first time; where it cannot, it
 //! says what is missing. The library asks for one function from outside, `fmodf`: it is Rust's own where Rust brings one, and
@@ -36,6 +37,8 @@
 #![no_std]
 #![deny(unsafe_op_in_unsafe_fn)]
 
+mod columns;
+pub mod double;
 mod grain;
 mod kernels;
 mod mark;
@@ -45,6 +48,7 @@ mod refusal;
 pub mod soft;
 mod strip;
 
+pub use columns::columns;
 pub use grain::Grain;
 pub use kernels::*;
 pub use mark::Mark;
@@ -82,6 +86,16 @@ mod exported {
         pub fn dampmeadow_ceil_marked(a: u32) -> u64;
         pub fn dampmeadow_grain_offer(grain: *mut Grain, sample: u32) -> u32;
         pub fn dampmeadow_recipe(line: *const u8, length: usize, x: u32) -> u64;
+        pub fn dampmeadow_double(op: u32, a: u64, value: *mut u64) -> u32;
+        pub fn dampmeadow_columns(
+            scan: usize,
+            retouch: usize,
+            retouched: bool,
+            from: usize,
+            to: usize,
+            first: *mut usize,
+            last: *mut usize,
+        ) -> bool;
         pub fn dampmeadow_soft_add(a: u32, b: u32) -> u32;
         pub fn dampmeadow_soft_sub(a: u32, b: u32) -> u32;
         pub fn dampmeadow_soft_mul(a: u32, b: u32) -> u32;

@@ -2,10 +2,11 @@ use core::error::Error;
 use core::fmt::{Display, Formatter, Result};
 
 /// Why there is no answer, or why a sample was not taken. Where more than one holds, the first of these is given: 8; 7 for a
-/// line that is no frame; 10; 6; 7 for a second word that should be 0; then 1, 2, 9, 3, 4, 5. For an offer to a
-/// [`Grain`](crate::Grain) it is the first of 12, 1, 4, 11. For a [`recipe`](crate::recipe) it is the first of 13, 14, 15, and
-/// else what the first kernel that refuses gives. Later versions of the library have more of them, so a `match` ends with `_`.
-/// One displays its number and what it says.
+/// line that is no frame; 10; 6; 7 for a second word that should be 0; then 1, 2, 9, 3, 4, 5. A call on a
+/// [`double`](crate::double) keeps to this order, with 6, 1, 2, 9, 3 and 4 alone. For an offer to a [`Grain`](crate::Grain) it
+/// is the first of 12, 1, 4, 11. For a [`recipe`](crate::recipe) it is the first of 13, 14, 15, and else what the first kernel
+/// that refuses gives. Later versions of the library have more of them, so a `match` ends with `_`. One displays its number and
+/// what it says.
 ///
 /// ```
 /// use dampmeadow::{sqrt, Refusal};
@@ -19,21 +20,22 @@ use core::fmt::{Display, Formatter, Result};
 pub enum Refusal {
     /// 1: an operand or a sample is an infinity or a NaN.
     NotFinite,
-    /// 2: the first operand is 0 or -0: invsqrt, inv, recip, ln, powi, powf.
+    /// 2: the first operand is 0 or -0: invsqrt, inv, recip, ln, powi, powf; on doubles inv.
     Zero,
-    /// 3: the first operand is below 0: sqrt, invsqrt, ln, powf.
+    /// 3: the first operand is below 0: sqrt, invsqrt, ln, powf; on doubles sqrt.
     Negative,
     /// 4: outside what the operation takes; or a sample's size is above 2^20.
     Outside,
     /// 5: powi's power is out of its range.
     PowerOutside,
-    /// 6: no operation has this number.
+    /// 6: no operation has this number, or none that takes a double.
     NoSuchOperation,
     /// 7: the line is no frame; or, judged after 6, the second word is not used by this operation and is not 0.
     Malformed,
     /// 8: the space for an answer has fewer than eleven bytes.
     NoRoom,
-    /// 9: the first operand is not 0 and too small to be normal: sqrt, invsqrt, inv, recip, ln, powi, powf. It is judged before 3.
+    /// 9: the first operand is not 0 and too small to be normal: sqrt, invsqrt, inv, recip, ln, powi, powf; on doubles sqrt and
+    /// inv. It is judged before 3.
     Small,
     /// 10: the lists of a [`strip`](crate::strip) have not all one length.
     Lengths,

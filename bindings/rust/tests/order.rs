@@ -11,7 +11,8 @@ const SIGN: u32 = 1 << 31;
 /// The words with a clear sign up to a last one, in order.
 fn up_to(last: u32) -> Vec<u32> {
     const STRIDE: usize = 65_521;
-    let mut up: Vec<u32> = words().chain([last]).chain((0..last).step_by(STRIDE).flat_map(|a| [a, a + 1])).filter(|a| *a <= last).collect();
+    let mut up: Vec<u32> =
+        words().chain([last]).chain((0..last).step_by(STRIDE).flat_map(|a| [a, a + 1])).filter(|a| *a <= last).collect();
     up.sort_unstable();
     up.dedup();
     up

@@ -1,6 +1,6 @@
--- An answered guarded call has its meaning or its bound, with no side condition left: the gate has seen to it. And inv takes a turned sign
--- to a turned sign. Assumes nothing.
-use Prim.Native.Nat.{ℕ, _+_, _^_, _<_}
+-- An answered guarded call has its meaning or its bound, with no side condition left: the gate has seen to it. sqrt keeps the order of its
+-- operands, inv takes a turned sign to a turned sign, and no answer is a NaN. Assumes nothing.
+use Prim.Native.Nat.{ℕ, _+_, _^_, _≤_, _<_}
 use native.Mathlib.Nat.{suc-ne-zero}
 use native.Mathlib.Omega.{arith}
 use mathlib.Core.Path.{_≡_, refl, sym, ap, _∙_}
@@ -14,12 +14,13 @@ use Rattle.format.specs.Estimates.{SqrtBound, InvBound}
 use Rattle.format.proofs.Sign.{turned-magnitude}
 use Rattle.format.proofs.PartsMeaning.{trunc-under, fract-under, parts-sum}
 use Rattle.format.proofs.Sqrt.{root-bound}
+use Rattle.format.proofs.EstimateOrder.{root-keeps-order}
 use Rattle.format.proofs.Inv.{inv-sign, inv-bound-by-size}
 use Rattle.double.specs.declared.guarded.Double.{Double}
 use Rattle.double.specs.declared.guarded.Double.the-variants.{Refused}
 use Rattle.double.specs.Operations.{opTrunc, opFract, opSqrt, opInv, isKnown}
 use Rattle.double.specs.Refusals.{refusalBehind, refusalOf}
-use Rattle.double.specs.Guarded.{refusalIn, wordIn, Answered, given, Guards, TurnsSign, GuardsByNumber}
+use Rattle.double.specs.Guarded.{wordIn, Answered, given, Guards, TurnsSign, GuardsByNumber}
 use Rattle.double.proofs.Gives.{numbered, answered-none, none-answered, answered-word}
 use Rattle.double.proofs.NoNan.{trunc-open, fract-open, sqrt-open, inv-open, no-nan}
 
@@ -41,6 +42,13 @@ module _ (a : ℕ) (r : Double) where
 pub parts-of-double : (a : ℕ) (r s : Double) → a < 2 ^ 64 → Guards opTrunc a r → Guards opFract a s → Answered r → Answered s
     → units binary64 (wordIn r) + units binary64 (wordIn s) ≡ units binary64 a
 parts-of-double a r s k g h p q = parts-sum binary64 a _ _ (trunc-means a r k g p) (fract-means a s h q)
+
+-- ---- the order of sqrt
+
+-- of two answered calls, the one with the larger operand has the larger root, or the same
+pub sqrt-never-falls : (a b : ℕ) (r s : Double) → Guards opSqrt a r → Guards opSqrt b s → Answered r → Answered s → units binary64 a ≤ units binary64 b
+    → units binary64 (wordIn r) ≤ units binary64 (wordIn s)
+sqrt-never-falls a b r s g t h k l = rw (answered-word g h, answered-word t k) (root-keeps-order binary64 a b (sqrt-open a (answered-none g h)) (sqrt-open b (answered-none t k)) l)
 
 -- ---- the sign of inv
 

@@ -17,7 +17,7 @@ use Rattle.format.proofs.Sqrt.{root-bound}
 use Rattle.format.proofs.Inv.{inv-bound-by-size}
 use Rattle.double.specs.Operations.{opTrunc, opFract, opSqrt, opInv, isKnown, valueOf}
 use Rattle.double.specs.Refusals.{refusalOf}
-use Rattle.double.proofs.Open.{Open, opened}
+use Rattle.double.proofs.Open.{opened}
 
 -- ---- the operand that an open gate has let pass
 

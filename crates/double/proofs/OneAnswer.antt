@@ -127,8 +127,8 @@ module _ (κs : Lfts 0) where
   guarded-call = pinned _ (λ a r x p. p .answer)
 
   -- ---- by number, raw or guarded
-  pub words-answer-refusal : OneAnswer (answer.Post κs) (λ r x. r .refusal)
-  words-answer-refusal = pinned _ (λ a r x p. p .0)
+  pub words-answer : OneAnswer (answer.Post κs) (λ r x. r .refusal)
+  words-answer = pinned _ (λ a r x p. p .0)
 
   pub words-answer-word : OneAnswer (answer.Post κs) (λ r x. r .word)
   words-answer-word = pinned _ (λ a r x p. p .1)

@@ -66,7 +66,7 @@ module _ (f : Format) (w : ℕ) where
     field-of-zero : exponent f w ≡ 0
     field-of-zero = rw (eqb-true (magnitude f w) 0 z) (div-eq-of-lt (hid-pos f))
 
-    no-units : units f w ≡ 0
+    pub no-units : units f w ≡ 0
     no-units = eqb-true (units f w) 0 (sym (units-zero f w) ∙ z)
 
     pub zero-not-endless : isEndless f w ≡ false

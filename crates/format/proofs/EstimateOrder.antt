@@ -1,17 +1,23 @@
--- As the number grows sqrt's answer never falls, from +0 up to the infinity, and the answers of invsqrt and inv never rise, inv's up to where its
+-- As the number grows sqrt's answer never falls, from +0 up to the infinity, guarded as well as raw, and the answers of invsqrt and inv never rise, inv's up to where its
 -- subtraction wraps; and inv is odd to the bit. Assumes nothing.
 use Prim.Native.Nat.{ℕ, _+_, _-_, _*_, _/_, _^_, _≤_, _<_}
-use native.Mathlib.Nat.{le-trans, le-of-lt}
+use native.Mathlib.Nat.{mod-eq-of-lt, le-trans, le-of-lt}
 use native.Mathlib.Omega.{arith}
 use mathlib.Core.Path.{_≡_, refl, sym, _∙_}
-use mathlib.Core.Bool.{true, false}
-use borrow.Author.Tests.{leb-true, lt-leb}
+use mathlib.Core.Bool.{Bool, true, false, cond, false≢true}
+use borrow.Author.Tests.{leb-true, lt-leb, eq-eqb}
 use lib.Dec.{lit<, lit≤}
 use lib.Ieee.{Format, binary32, binary64, hid, top, le, lt, eq, ofBits}
-use Rattle.format.specs.Fields.{width, infWord, oneWord}
+use Rattle.format.specs.Fields.{width, magnitude, infWord, oneWord}
+use Rattle.format.specs.Value.{units}
+use Rattle.format.specs.Classes.{isZero}
 use Rattle.format.specs.Estimates.{sqrtWord, invMagic, invWord, invsqrtMagic, invsqrtWord, Normal}
 use Rattle.format.specs.Ordered.{Unsigned, Unwrapped, NoLarger, OddAt}
 use Rattle.format.proofs.Order.{no-wrap}
+use Rattle.format.proofs.AtLeastZero.{units-zero}
+use Rattle.format.proofs.Classes.{no-units}
+use Rattle.format.proofs.Larger.{magnitude-mono}
+use Rattle.format.proofs.Normal.{below-top}
 use Rattle.format.proofs.Halved.{halved-up}
 use Rattle.format.proofs.Compared.{to-infinity, from-infinity, order-of-words, no-larger}
 use Rattle.format.proofs.Inv.{magic-below, magic-fits, inv-sign}
@@ -38,6 +44,24 @@ sqrt-keeps-order f w v u h =
 -- the same of two numbers that IEEE 754 compares
 pub sqrt-rises : (f : Format) (w v : ℕ) → Unsigned f w → Unsigned f v → le (ofBits f w) (ofBits f v) ≡ true → NoLarger f (sqrtWord f w) (sqrtWord f v)
 sqrt-rises f w v p q h = sqrt-keeps-order f w v q (leb-true w v (sym (order-of-words f w v p q) ∙ h))
+
+-- a guarded root, where a zero is its own and any other number is normal: the larger the number, the larger its root
+pub root-keeps-order : (f : Format) (w v : ℕ) → (isZero f w ≡ false → Normal f w) → (isZero f v ≡ false → Normal f v) → units f w ≤ units f v
+    → units f (cond (isZero f w) w (sqrtWord f w)) ≤ units f (cond (isZero f v) v (sqrtWord f v))
+root-keeps-order f w v n m h = go (isZero f w) (isZero f v) refl refl
+  where
+    as-is : (x : ℕ) → Normal f x → magnitude f x ≡ x
+    as-is x k = mod-eq-of-lt (below-top f x (k .below))
+
+    go : (s t : Bool) → isZero f w ≡ s → isZero f v ≡ t → units f (cond s w (sqrtWord f w)) ≤ units f (cond t v (sqrtWord f v))
+    go true t p q = rw (no-units f w p) (omega arith)
+    go false true p q =
+        let z : units f w ≡ 0 = let k = no-units f v q in omega arith in
+        absurd (false≢true (sym p ∙ units-zero f w ∙ eq-eqb (units f w) 0 z))
+    go false false p q =
+        let k = m q in
+        let l : w ≤ v = rw (as-is w (n p), as-is v k) at (magnitude-mono f w v h) in
+        sqrt-keeps-order f w v (from-infinity f v (le-of-lt (k .below))) l .amounts
 
 -- it does not always rise, as from +0 to the number next to it; and past the infinity the answers' words fall, from a NaN's root to that of -0
 pub sqrt-rests : sqrtWord binary32 0x0000_0000 ≡ sqrtWord binary32 0x0000_0001

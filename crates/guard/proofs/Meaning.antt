@@ -1,11 +1,14 @@
--- An answered guarded call has its meaning or its bound, with no side condition left: the gate has seen to it. And inv takes a turned sign
--- to a turned sign. Assumes nothing.
-use Prim.Native.Nat.{ℕ, _^_, _<_}
+-- An answered guarded call has its meaning or its bound, with no side condition left: the gate has seen to it. sqrt keeps the order of its
+-- operands, and inv takes a turned sign to a turned sign. Assumes nothing.
+use Prim.Native.Nat.{ℕ, _^_, _≤_, _<_}
 use native.Mathlib.Omega.{arith}
 use mathlib.Core.Path.{_≡_, refl, sym, ap, _∙_}
+use mathlib.Core.Bool.{false}
 use lib.Dec.{lit<}
 use lib.Ieee.{binary32, nanBits, ofBits}
+use Rattle.format.specs.Classes.{isZero}
 use Rattle.format.specs.Sign.{turnedWord}
+use Rattle.format.specs.Value.{units}
 use Rattle.format.specs.Meaning.{IsTrunc, IsFract, IsFloor, IsCeil, IsRound}
 use Rattle.format.specs.Estimates.{Normal, SqrtBound, InvBound, InvsqrtBound, InvsqrtTight}
 use Rattle.format.proofs.Classes.{finite-of, normal-of}
@@ -14,6 +17,7 @@ use Rattle.format.proofs.PartsMeaning.{trunc-under, fract-under}
 use Rattle.format.proofs.FloorMeaning.{floor-is, ceil-is}
 use Rattle.format.proofs.RoundMeaning.{round-is-nearest}
 use Rattle.format.proofs.Sqrt.{root-bound}
+use Rattle.format.proofs.EstimateOrder.{root-keeps-order}
 use Rattle.format.proofs.Inv.{inv-sign, inv-bound-by-size}
 use Rattle.format.proofs.Invsqrt.{invsqrt-bound, invsqrt-tight}
 use Rattle.float.specs.RemEuclid.{LeftBy}
@@ -32,6 +36,10 @@ use Rattle.guard.proofs.NoNan.{under32, to31, under23, invertible, quot
 -- the gate is open to the operands of an answered call
 open-to : (op a b : ℕ) (r : Answer) → Guards op a b r → Answered r → Open op a b
 open-to op a b r g h = opened op a b (answered-none g h)
+
+-- what is no zero and has a root is normal
+root-operand : (a b : ℕ) (r : Answer) → Guards opSqrt a b r → Answered r → isZero binary32 a ≡ false → Normal binary32 a
+root-operand a b r g h z = let o = open-to opSqrt a b r g h in normal-of binary32 a (o .first) z (o .small) (o .sign)
 
 module _ (a b : ℕ) (r : Answer) where
   pub trunc-means : a < 2 ^ 32 → Guards opTrunc a b r → Answered r → IsTrunc binary32 a (wordOf r)
@@ -58,7 +66,7 @@ module _ (a b : ℕ) (r : Answer) where
 
   -- a zero, which is its own root, and a normal number
   pub sqrt-bounded : Guards opSqrt a b r → Answered r → SqrtBound binary32 a (wordOf r)
-  sqrt-bounded g h = let o = open-to opSqrt a b r g h in rw (answered-word g h) (root-bound binary32 a (λ z. normal-of binary32 a (o .first) z (o .small) (o .sign)))
+  sqrt-bounded g h = rw (answered-word g h) (root-bound binary32 a (root-operand a b r g h))
 
   invsqrt-normal : Guards opInvsqrt a b r → Answered r → Normal binary32 a
   invsqrt-normal g h = let o = open-to opInvsqrt a b r g h in normal-of binary32 a (o .first) (o .zero) (o .small) (o .sign)
@@ -79,6 +87,13 @@ module _ (a b : ℕ) (r : Answer) where
   rem-euclid-left g h =
       let o = open-to opRemEuclid a b r g h in
       rw (answered-word g h) (rem-euclid-within a b (finite-of binary32 a (o .first)) (finite-of binary32 b (o .second)) (divisor-not-zero a b (quotient-under a b (o .gate))))
+
+-- ---- the order of sqrt
+
+-- of two answered calls, the one with the larger operand has the larger root, or the same
+pub sqrt-never-falls : (a b c d : ℕ) (r s : Answer) → Guards opSqrt a b r → Guards opSqrt c d s → Answered r → Answered s → units binary32 a ≤ units binary32 c
+    → units binary32 (wordOf r) ≤ units binary32 (wordOf s)
+sqrt-never-falls a b c d r s g t h k l = rw (answered-word g h, answered-word t k) (root-keeps-order binary32 a c (root-operand a b r g h) (root-operand c d s t k) l)
 
 -- ---- the sign of inv
 

@@ -1,7 +1,6 @@
 -- `doubles::number` ends, and reads within its line. Assumes nothing.
 use borrow.Author.Needs.{needs}
 use Prim.Native.Nat.{_-_}
-use native.Mathlib.Omega.{arith}
 use Rattle.doubles.proofs.number.Statement.{statement}
 use Rattle.doubles.proofs.number.Tie as tie
 

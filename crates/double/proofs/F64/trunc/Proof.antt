@@ -2,7 +2,7 @@
 use borrow.Author.Needs.{needs}
 use Prim.Native.Nat.{ℕ, _≤_}
 use native.Mathlib.Nat.{mod-le}
-use mathlib.Core.Path.{_≡_, sym, ap, subst, _∙_}
+use mathlib.Core.Path.{_≡_, sym, subst, _∙_}
 use lib.Ieee.{binary64}
 use Rattle.format.specs.Parts.{belowPoint}
 use Rattle.format.specs.Meaning.{IsTrunc}

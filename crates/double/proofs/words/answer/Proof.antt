@@ -1,6 +1,6 @@
 -- `double::words::answer` meets its contract: a raw kernel's word, or what the guarded call says. Assumes nothing.
 use borrow.Author.Needs.{needs}
-use mathlib.Core.Path.{_≡_, _∙_}
+use mathlib.Core.Path.{_∙_}
 use mathlib.Core.List.{[], _∷_}
 use Rattle.format.proofs.Lists.{unlisted}
 use Rattle.double.proofs.words.answer.Statement.{statement}

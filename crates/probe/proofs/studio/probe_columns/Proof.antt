@@ -1,7 +1,7 @@
 -- `probe::studio::probe_columns` meets its contract: a place of the part that is lent, or past its end. Assumes nothing.
 use borrow.Author.Needs.{needs}
 use Prim.Native.Nat.{ℕ}
-use mathlib.Core.Path.{_≡_, sym, ap, _∙_}
+use mathlib.Core.Path.{sym, ap, _∙_}
 use mathlib.Core.List.{List}
 use lib.ListN.{getD, List·getD-eq-default}
 use denote.Ref.{now}
