@@ -1,6 +1,13 @@
 //! Runs micromath's kernels beside ours, word for word, and says how many words were tried and how many differ. Or answers
 //! frames by them, and holds a program that does so, for frames or for recipe lines, to those answers.
 
+mod columns;
+mod double_judge;
+mod double_laws;
+mod double_list;
+mod double_rows;
+mod double_speed;
+mod doubles;
 mod edges;
 mod frames;
 mod frames_speed;
@@ -55,6 +62,8 @@ enum Lines {
     RecipeList(String),
     /// Write the recorded list of the engine without floats to a folder.
     SoftList(String),
+    /// Write the recorded list of doubles to a folder.
+    DoubleList(String),
 }
 
 struct Wanted {
@@ -83,6 +92,7 @@ fn wanted() -> Result<Wanted, String> {
             "--recipes" => wanted.lines = Some(Lines::Recipes(args.next().unwrap_or_default())),
             "--recipe-list" => wanted.lines = Some(Lines::RecipeList(args.next().unwrap_or_default())),
             "--soft-list" => wanted.lines = Some(Lines::SoftList(args.next().unwrap_or_default())),
+            "--double-list" => wanted.lines = Some(Lines::DoubleList(args.next().unwrap_or_default())),
             _ => return Err(format!("no such option: {arg}")),
         }
     }
@@ -104,6 +114,7 @@ fn lines(lines: &Lines) -> i32 {
         Lines::Recipes(program) => (program.as_str(), recipes::compare(program)),
         Lines::RecipeList(folder) => (folder.as_str(), recipes::write(Path::new(folder)).map(|()| true)),
         Lines::SoftList(folder) => (folder.as_str(), soft_list::write(Path::new(folder)).map(|()| true)),
+        Lines::DoubleList(folder) => (folder.as_str(), double_list::write(Path::new(folder)).map(|()| true)),
     };
     match done {
         Ok(agree) => !agree as i32,
@@ -114,8 +125,9 @@ fn lines(lines: &Lines) -> i32 {
     }
 }
 
-/// Says how long the chosen kernels take, and, where these are wanted, an offer of grain, recipes and the calls without floats.
-fn measure(all: &[Kernel], chosen: &[&Kernel], [wants_grain, wants_recipes, wants_soft]: [bool; 3]) {
+/// Says how long the chosen kernels take, and, where these are wanted, an offer of grain, recipes, the calls without floats and
+/// those on doubles.
+fn measure(all: &[Kernel], chosen: &[&Kernel], [wants_grain, wants_recipes, wants_soft, wants_doubles]: [bool; 4]) {
     let raw = |kernel: &Kernel| all.iter().find(|k| kernel.is_guarded() && !k.is_guarded() && k.name == kernel.name);
     if !chosen.is_empty() {
         println!("{}", speed::heading());
@@ -135,6 +147,9 @@ fn measure(all: &[Kernel], chosen: &[&Kernel], [wants_grain, wants_recipes, want
     if wants_soft {
         soft::speed().iter().for_each(|line| println!("{line}"));
     }
+    if wants_doubles {
+        double_speed::speed().iter().for_each(|line| println!("{line}"));
+    }
 }
 
 fn main() {
@@ -150,8 +165,8 @@ fn main() {
     // what is no kernel: strips are timed with each, and no other is timed with strips
     let keys = match (wanted.strips, wanted.speed) {
         (true, _) => vec![],
-        (_, true) => vec![grain::KEY, recipes::KEY, soft::KEY],
-        _ => vec![products::KEY, order::KEY, strips::KEY, grain::KEY, recipes::KEY, soft::KEY],
+        (_, true) => vec![grain::KEY, recipes::KEY, soft::KEY, doubles::KEY],
+        _ => vec![products::KEY, order::KEY, strips::KEY, grain::KEY, recipes::KEY, soft::KEY, doubles::KEY],
     };
     if let Some(key) = wanted.only.iter().find(|key| !keys.contains(&key.as_str()) && !all.iter().any(|k| k.key() == **key)) {
         eprintln!("compare: nothing here has the number or name {key:?}");
@@ -160,15 +175,15 @@ fn main() {
     let wants = |kernel: &Kernel| wanted.only.is_empty() || wanted.only.contains(&kernel.key());
     let chosen: Vec<&Kernel> = all.iter().filter(|k| wants(k)).collect();
     let wants_key = |key: &str| wanted.only.is_empty() || wanted.only.iter().any(|only| only == key);
-    let [wants_products, wants_order, wants_strips, wants_grain, wants_recipes, wants_soft] =
-        [products::KEY, order::KEY, strips::KEY, grain::KEY, recipes::KEY, soft::KEY].map(wants_key);
+    let [wants_products, wants_order, wants_strips, wants_grain, wants_recipes, wants_soft, wants_doubles] =
+        [products::KEY, order::KEY, strips::KEY, grain::KEY, recipes::KEY, soft::KEY, doubles::KEY].map(wants_key);
 
     if wanted.strips {
         println!("{}", strips_speed::heading());
         return chosen.iter().filter_map(|kernel| strips_speed::rows(kernel)).flatten().for_each(|row| println!("{row}"));
     }
     if wanted.speed {
-        return measure(&all, &chosen, [wants_grain, wants_recipes, wants_soft]);
+        return measure(&all, &chosen, [wants_grain, wants_recipes, wants_soft, wants_doubles]);
     }
     let mut total = Count::default();
     let mut report = |label: &str, count: Count| {
@@ -204,6 +219,9 @@ fn main() {
     }
     if wants_soft {
         soft::soft(wanted.every, &mut report);
+    }
+    if wants_doubles {
+        doubles::doubles(wanted.every, &mut report);
     }
     println!("{}", sweep::line("in all", &total));
     exit(if total.differ == 0 { 0 } else { 1 });

@@ -7,7 +7,7 @@ use crate::soft_list::list;
 use crate::soft_pairs::{edges, for_kernels, pair, Grid};
 use crate::soft_rows::{by_hand, of_the_crate, Row};
 use crate::speed::{singly, timed, Side, RUNS, TURNS, WORDS};
-use crate::sweep::{blocks, sweep, Count};
+use crate::sweep::{blocks, each, sweep, Count};
 use crate::words::Random;
 
 /// What `--only` calls all of this.
@@ -80,18 +80,6 @@ impl Soft {
     }
 }
 
-/// A trial for each kind of answer: whether there was one of it has to be as it is here.
-fn each<'a>(name: &str, kinds: impl Iterator<Item = (&'a str, bool, u64)>) -> (String, Count) {
-    let (mut count, mut told) = (Count::default(), Vec::new());
-    for (kind, has, answers) in kinds {
-        count.judge(Some(has as u64), answers.min(1), || format!("the flag of answers of soft {name} that are {kind}"));
-        if has {
-            told.push(format!("{answers} {kind}"));
-        }
-    }
-    (format!("soft {name} by its answers ({})", told.join(", ")), count)
-}
-
 /// What was tried of the operations, and how many answers of each were of each kind, of those judged in whole numbers.
 #[derive(Default)]
 struct Tried {
@@ -124,7 +112,7 @@ impl Tried {
     /// The kinds of an operation's answers.
     fn each(&self, operation: Operation) -> (String, Count) {
         let kinds = KINDS.iter().map(|(kind, name, has)| (*name, has.contains(&operation), self.kinds[operation as usize][*kind as usize]));
-        each(operation.name(), kinds)
+        each(&format!("soft {}", operation.name()), kinds)
     }
 }
 
@@ -208,7 +196,7 @@ fn kernel(soft: &Soft, every: bool, report: &mut impl FnMut(&str, Count)) {
     report(first.name, sweep(first, every));
     report(theirs.name, strides(theirs));
     report(&format!("soft {} about quarter turns and ends", soft.name), count);
-    let (label, count) = each(soft.name, (0..).zip(ANSWERS).map(|(place, kind)| (kind, soft.has.contains(&kind), answers[place])));
+    let (label, count) = each(&format!("soft {}", soft.name), (0..).zip(ANSWERS).map(|(place, kind)| (kind, soft.has.contains(&kind), answers[place])));
     report(&label, count);
 }
 
@@ -257,15 +245,15 @@ pub fn speed() -> Vec<String> {
     let line = |name: &str, sides: Vec<Side>| format!("soft {name}: {}", timed(sides, TURNS, WORDS as f64, "ns"));
     let machine: [extern "C" fn(u32, u32) -> u32; 4] = [machine!(+), machine!(-), machine!(*), machine!(/)];
     let operation = |(operation, machine): (Operation, extern "C" fn(u32, u32) -> u32)| {
-        let machine = Side::new("the machine by a call", true, singly(&pairs, move |a, b| machine(a, b) as u64));
-        line(operation.name(), vec![machine, Side::new("soft", false, singly(&pairs, move |a, b| call(operation, a, b) as u64))])
+        let machine = Side::new("the machine by a call", true, singly(&pairs, move |(a, b)| machine(a, b) as u64));
+        line(operation.name(), vec![machine, Side::new("soft", false, singly(&pairs, move |(a, b)| call(operation, a, b) as u64))])
     };
     let kernel = |soft: &Soft| {
         let (theirs, first, ours) = (of_the_crate(soft.name).theirs, soft.first, soft.ours);
         let sides = vec![
-            Side::new("the crate", true, singly(&pairs, move |a, _| theirs(a, 0) as u64)),
-            Side::new("the first engine", true, singly(&pairs, move |a, _| first(a, 0) as u64)),
-            Side::new("soft", false, singly(&pairs, move |a, _| ours(a, 0))),
+            Side::new("the crate", true, singly(&pairs, move |(a, _)| theirs(a, 0) as u64)),
+            Side::new("the first engine", true, singly(&pairs, move |(a, _)| first(a, 0) as u64)),
+            Side::new("soft", false, singly(&pairs, move |(a, _)| ours(a, 0))),
         ];
         line(soft.name, sides)
     };

@@ -32,11 +32,11 @@ impl<'a> Side<'a> {
     }
 }
 
-/// A turn that makes a call for each word.
-pub fn singly<'a>(words: &'a [(u32, u32)], call: impl Fn(u32, u32) -> u64 + 'a) -> impl FnMut() + 'a {
+/// A turn that makes a call for each word, pair or whatever else a call takes.
+pub fn singly<'a, T: Copy>(words: &'a [T], call: impl Fn(T) -> u64 + 'a) -> impl FnMut() + 'a {
     move || {
-        for &(a, b) in black_box(words) {
-            black_box(call(a, b));
+        for &word in black_box(words) {
+            black_box(call(word));
         }
     }
 }
@@ -125,8 +125,8 @@ pub fn line(kernel: &Kernel, raw: Option<&Kernel>) -> String {
         Some(raw) => vec![("raw", raw), ("guarded", kernel)],
         None => vec![("ours", kernel)],
     };
-    let mut sides = vec![Side::new("the crate", true, singly(&words, |a, b| (kernel.theirs)(a, b) as u64))];
-    sides.extend(forms.iter().map(|&(name, form)| Side::new(name, false, singly(&words, |a, b| form.ours(a, b)))));
+    let mut sides = vec![Side::new("the crate", true, singly(&words, |(a, b)| (kernel.theirs)(a, b) as u64))];
+    sides.extend(forms.iter().map(|&(name, form)| Side::new(name, false, singly(&words, |(a, b)| form.ours(a, b)))));
     sides.extend(strips(kernel, &forms, &words));
     format!("{}: {}", kernel.label(), timed(sides, TURNS, WORDS as f64, "ns"))
 }

@@ -56,10 +56,24 @@ impl Count {
             marks.note(ours);
         }
         if expected != Some(ours) {
-            self.differ += 1;
-            if self.wrong.len() < TOLD {
-                self.wrong.push(self.trial(asked(), expected, ours));
-            }
+            self.tell(|count| count.trial(asked(), expected, ours));
+        }
+    }
+
+    /// Counts a trial of what is written otherwise than a word with its refusal or mark.
+    #[inline(always)]
+    pub fn judge_shown<T: PartialEq + fmt::Display>(&mut self, expected: T, ours: T, asked: impl FnOnce() -> String) {
+        self.tried += 1;
+        if expected != ours {
+            self.tell(|_| Trial { asked: asked(), expected: expected.to_string(), ours: ours.to_string() });
+        }
+    }
+
+    /// Counts one that differs, and keeps it if it is among the first.
+    fn tell(&mut self, trial: impl FnOnce(&Count) -> Trial) {
+        self.differ += 1;
+        if self.wrong.len() < TOLD {
+            self.wrong.push(trial(self));
         }
     }
 
@@ -124,6 +138,18 @@ fn written(answer: u64) -> String {
 /// An answer that has a mark.
 fn with_mark(answer: u64) -> String {
     format!("mark {} with {:08x}", answer >> 32, answer as u32)
+}
+
+/// A trial for each kind of answer: whether there was one of it has to be as it is here.
+pub fn each<'a>(name: &str, kinds: impl Iterator<Item = (&'a str, bool, u64)>) -> (String, Count) {
+    let (mut count, mut told) = (Count::default(), Vec::new());
+    for (kind, has, answers) in kinds {
+        count.judge(Some(has as u64), answers.min(1), || format!("the flag of answers of {name} that are {kind}"));
+        if has {
+            told.push(format!("{answers} {kind}"));
+        }
+    }
+    (format!("{name} by its answers ({})", told.join(", ")), count)
 }
 
 /// What is tried, as numbered pairs of words: number `i` below `len` is tried as `at(i)`.

@@ -308,10 +308,14 @@ pub fn write(reader: &Reader, folder: &Path) -> io::Result<()> {
 /// Writes lines to `stdin` and the answers to them to `stdout` in a folder.
 pub fn store(folder: &Path, what: &str, lines: &[Vec<u8>], answers_to: impl Fn(&[u8]) -> Vec<u8>) -> io::Result<()> {
     let input = joined(lines);
-    let answers = answers_to(&input);
+    keep(folder, &format!("{} {what}", lines.len()), &input, &answers_to(&input))
+}
+
+/// Writes an input to `stdin` and the answers to it to `stdout` in a folder, and says what was written.
+pub fn keep(folder: &Path, what: &str, input: &[u8], answers: &[u8]) -> io::Result<()> {
     std::fs::create_dir_all(folder)?;
-    std::fs::write(folder.join("stdin"), &input)?;
-    std::fs::write(folder.join("stdout"), &answers)?;
-    println!("{}: {} {what}, {} bytes in stdin, {} in stdout", folder.display(), lines.len(), input.len(), answers.len());
+    std::fs::write(folder.join("stdin"), input)?;
+    std::fs::write(folder.join("stdout"), answers)?;
+    println!("{}: {what}, {} bytes in stdin, {} in stdout", folder.display(), input.len(), answers.len());
     Ok(())
 }

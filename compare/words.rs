@@ -20,6 +20,11 @@ impl Random {
         (self.0.wrapping_mul(0x2545_f491_4f6c_dd1d) >> 32) as u32
     }
 
+    /// A word of twice the length.
+    pub fn wide(&mut self) -> u64 {
+        (self.word() as u64) << 32 | self.word() as u64
+    }
+
     /// A number below `n`.
     pub fn below(&mut self, n: usize) -> usize {
         self.word() as usize % n
