@@ -389,7 +389,7 @@ uint64_t dampmeadow_recipe(const uint8_t *line, size_t length, uint32_t x);
  *
  *       A raw form answers every word. Where the guarded form answers it gives the same, but for sqrt of a zero. trunc drops
  *       the bits below the point, and fract keeps them alone; from 2^64 on both count the places of the point modulo 64, for an
- *       infinity and a NaN too, and mean nothing. sqrt is half the sum of the word and that of 1, 0x3ff0000000000000, rounded
+ *       infinity and a NaN too, and mean little. sqrt is half the sum of the word and that of 1, 0x3ff0000000000000, rounded
  *       down: of 0 it is 0x1ff8000000000000, and of -0 0x5ff8000000000000. Of a NaN and of a number below 0 it is a NaN,
  *       0x7ff8000000000000. inv is 0x7fe0000000000000 less the word, modulo 2^64; turning x's sign bit turns the answer's and
  *       nothing else, whatever the word.

@@ -101,8 +101,8 @@ static void settings(void)
 {
 #ifdef __SSE__
     const unsigned usual = _mm_getcsr(), rounding = 0x6000, small_results = 0x8000, small_operands = 0x0040;
-    for (unsigned way = 0; way < 4; way++) for (unsigned small = 0; small < 2; small++) {
-        _mm_setcsr((usual & ~rounding) | way << 13 | (small ? small_results | small_operands : 0));
+    for (unsigned way = 0; way < 4; way++) for (unsigned small = 0; small < 4; small++) {
+        _mm_setcsr((usual & ~rounding) | way << 13 | (small & 1 ? small_results : 0) | (small & 2 ? small_operands : 0));
         rows();
         _mm_setcsr(usual);
     }
@@ -119,7 +119,7 @@ static int is_kernel(uint32_t op)
 static void numbers(void)
 {
     const uint64_t any[4] = {0, 0x3ff0000000000000, NOT_A_NUMBER, 0xffffffffffffffff};
-    const uint32_t far[5] = {0x109, 0x10001, 0x80000001, 0x80000009, 0xffffffff};
+    const uint32_t far[5] = {0x209, 0x10001, 0x80000001, 0x80000009, 0xffffffff};
     for (int i = 0; i < 4; i++) {
         for (uint32_t op = 0; op < 0x200; op++) if (!is_kernel(op)) call(op, any[i], DAMPMEADOW_NO_SUCH_OPERATION, 0);
         for (int j = 0; j < 5; j++) call(far[j], any[i], DAMPMEADOW_NO_SUCH_OPERATION, 0);

@@ -114,7 +114,7 @@ pub fn inv(x: f64) -> Result<f64, Refusal> {
 }
 
 /// The raw form of [`trunc`]: the bits below the point are dropped, and below 1 in size it is the zero of the sign of x. From a
-/// size of 2^64 on, for an infinity and a NaN too, the places of the point are counted modulo 64, and the answer means nothing.
+/// size of 2^64 on, for an infinity and a NaN too, the places of the point are counted modulo 64, and the answer means little.
 ///
 /// ```
 /// use dampmeadow::double::raw_trunc;
@@ -126,7 +126,8 @@ pub fn raw_trunc(a: u64) -> u64 {
     raw(Operation::Trunc, a)
 }
 
-/// The raw form of [`fract`]: what [`raw_trunc`] leaves, with the sign bit of x. It means as little from a size of 2^64 on.
+/// The raw form of [`fract`]: the bits below the point alone, with the sign bit of x. From a size of 2^64 on it means as little as
+/// [`raw_trunc`].
 ///
 /// ```
 /// use dampmeadow::double::raw_fract;

@@ -1,18 +1,19 @@
 -- Both sides of every edge of the guarded doubles, and what the raw kernels answer at the ends: one computed test tries each table.
 -- Assumes nothing.
-use Prim.Native.Nat.{ℕ}
+use Prim.Native.Nat.{ℕ, suc}
 use native.Mathlib.Omega.{arith}
 use mathlib.Core.Path.{_≡_, refl}
 use mathlib.Core.Bool.{Bool, true, false, _&&_}
 use mathlib.Core.List.{List, [], _∷_, map}
 use borrow.Author.Tests.{le-leb}
 use lib.Dec.{eqb}
-use lib.Ieee.{binary64, size, le, lt, eq, ofBits}
+use lib.IntN.{pos}
+use lib.Ieee.{binary64, fin, size, le, lt, eq, ofBits}
 use Rattle.format.specs.Fields.{magnitude}
 use Rattle.format.specs.Value.{Finite}
 use Rattle.format.specs.Parts.{written}
 use Rattle.format.proofs.Classes.{under-infinity}
-use Rattle.double.specs.Operations.{opSqrt, opInv, isKnown, isRaw, valueOf}
+use Rattle.double.specs.Operations.{opTrunc, opFract, opSqrt, opInv, isKnown, isRaw, valueOf}
 use Rattle.double.specs.Refusals.{unbounded, gateOf, passes, refusalBehind, refusalOf}
 use Rattle.double.specs.Words.{doubleRefusal, doubleWord}
 
@@ -142,8 +143,17 @@ known-numbers = refl
 pub raw-numbers : map isRaw (0x80 ∷ 0x81 ∷ 0x82 ∷ 0x83 ∷ 0x88 ∷ 0x89 ∷ 0x8a ∷ 0x8b ∷ 0x8c ∷ 0x01 ∷ []) ≡ false ∷ true ∷ true ∷ false ∷ false ∷ true ∷ false ∷ true ∷ false ∷ false ∷ []
 raw-numbers = refl
 
-pub gate-words : map gateOf (0x01 ∷ 0x02 ∷ 0x0b ∷ []) ≡ 0x43ef_ffff_ffff_ffff ∷ 0x43ef_ffff_ffff_ffff ∷ 0x7fd0_0000_0000_0000 ∷ []
-gate-words = refl
+-- the word after the gate of trunc and of fract is 2 ^ 64, and that of inv is 2 ^ 1022; no other row has a bound, and past the table none
+pub gate-ends : map (ofBits binary64) (suc (gateOf opTrunc) ∷ suc (gateOf opFract) ∷ gateOf opInv ∷ []) ≡ fin false 1 (pos 64) ∷ fin false 1 (pos 64) ∷ fin false 1 (pos 1022) ∷ []
+unfolding ofBits
+gate-ends = refl
+
+pub open-rows : map (λ (op : ℕ). eqb (gateOf op) unbounded) (0x00 ∷ 0x01 ∷ 0x02 ∷ 0x03 ∷ 0x08 ∷ 0x09 ∷ 0x0a ∷ 0x0b ∷ 0x0c ∷ 0x81 ∷ []) ≡ true ∷ false ∷ false ∷ true ∷ true ∷ true ∷ true ∷ false ∷ true ∷ true ∷ []
+open-rows = refl
+
+-- the largest finite words pass there, and the infinities do not
+pub unbounded-ends : map (passes unbounded) (0x7fef_ffff_ffff_ffff ∷ 0xffef_ffff_ffff_ffff ∷ 0x7ff0_0000_0000_0000 ∷ 0xfff0_0000_0000_0000 ∷ []) ≡ true ∷ true ∷ false ∷ false ∷ []
+unbounded-ends = refl
 
 -- where a row has no bound, every finite word passes
 pub finite-passes : (w : ℕ) → Finite binary64 w → passes unbounded w ≡ true

@@ -61,7 +61,7 @@ pub fn fract(x: F64) -> Double
     )
 }
 
-// A zero is its own square root, so it parts from the raw form there.
+// About the square root. A zero is its own, and there the guarded form parts from the raw one.
 pub fn sqrt(x: F64) -> Double
     ensures gate { λ r. ⌜ Guards opSqrt (x .0) r ⌝ }
     ensures bound { λ r. ⌜ (Answered r → SqrtBound binary64 (x .0) (wordIn r)) ⌝ }
@@ -97,7 +97,6 @@ pub fn call(op: u32, a: u64) -> Double
     }
 }
 
-// A zero is its own root.
 fn root(x: F64) -> F64
     ensures { λ r. ⌜ r .0 ≡ valueOf opSqrt (x .0) ⌝ }
 {

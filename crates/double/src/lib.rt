@@ -1,6 +1,6 @@
 // The number type F64, which is its 64 bits, with its helpers. The raw kernels stand one to a file,
 // `guarded` has them behind the light gate, and `words` by number. They are Dampmeadow's own, after
-// those of micromath at 32 bits. `dampmeadow` and `doubles` call it.
+// those of micromath at 32 bits. `dampmeadow`, `doubles` and `probe` call it.
 ghost use mathlib.Core.Path.{_≡_};
 ghost use mathlib.Core.Bool.{not};
 ghost use lib.Ieee.{binary64, emax, ofBits, toBits, nanBits};

@@ -11,8 +11,8 @@ pub struct Reply {
     pub word: u64,
 }
 
-// A raw kernel answers every word; a guarded one is refused with 1, 2, 9, 3 or 4; and a number that
-// has no kernel with 6.
+// A raw kernel answers every word; a guarded one may be refused, with 1, 2, 9, 3 or 4; and a number
+// that has no kernel is refused with 6.
 pub fn answer(op: u32, a: u64) -> Reply
     ensures refusal { λ r. ⌜ r .refusal ≡ doubleRefusal op a ⌝ }
     ensures word { λ r. ⌜ r .word ≡ doubleWord op a ⌝ }

@@ -1,5 +1,5 @@
--- As the number grows sqrt's answer never falls, from +0 up to the infinity, guarded as well as raw, and the answers of invsqrt and inv never rise, inv's up to where its
--- subtraction wraps; and inv is odd to the bit. Assumes nothing.
+-- As the number grows sqrt's answer never falls, from +0 up to the infinity, nor does a guarded root where it answers, and the answers of
+-- invsqrt and inv never rise, inv's up to where its subtraction wraps; and inv is odd to the bit. Assumes nothing.
 use Prim.Native.Nat.{ℕ, _+_, _-_, _*_, _/_, _^_, _≤_, _<_}
 use native.Mathlib.Nat.{mod-eq-of-lt, le-trans, le-of-lt}
 use native.Mathlib.Omega.{arith}

@@ -3,13 +3,13 @@
 use Prim.Native.Nat.{ℕ, zero, suc, _+_, _*_, _<_}
 use native.Mathlib.Nat.{ne-of-lt}
 use native.Mathlib.Omega.{arith}
-use mathlib.Core.Path.{_≡_, refl, sym, subst, _∙_}
+use mathlib.Core.Path.{_≡_, refl, sym, ap, subst, _∙_}
 use mathlib.Core.Bool.{Bool, true, false, not, _&&_, true≢false}
 use borrow.Author.Tests.{eq-eqb, ne-eqb, not-false}
 use lib.Dec.{T, eqb}
 use lib.Ieee.{Format, binary32, binary64, Float, nan, inf, fin, emax, ones, top, isNan, ne, div, nanBits, ofFields, ofBits, toBits}
 use lib.Ieee.Bits.{toBits-ofBits, nanBits-is}
-use lib.Ieee.Compare.{nan-differs}
+use lib.Ieee.Compare.{differs-from-itself, nan-differs}
 use Rattle.format.specs.Fields.{negative, exponent, fraction, nanWord}
 use Rattle.format.specs.Value.{Finite}
 
@@ -48,15 +48,21 @@ pub finite-number : (f : Format) (w : ℕ) → Finite f w → nanBits f w ≡ fa
 unfolding nanBits
 finite-number f w h = rw (ne-eqb (exponent f w) (ones f) (ne-of-lt h))
 
+pub not-held : {b : Bool} → b ≡ false → T (not b)
+not-held e = subst (λ (b : Bool). T (not b)) (sym e) tt
+
 -- a word that is no NaN is its number's word
 pub kept-word : (f : Format) (w : ℕ) → w < 2 * top f → nanBits f w ≡ false → toBits f (ofBits f w) ≡ w
-kept-word f w h n = toBits-ofBits f w h (subst (λ (b : Bool). T (not b)) (sym (sym (nanBits-is f w) ∙ n)) tt)
+kept-word f w h n = toBits-ofBits f w h (not-held (sym (nanBits-is f w) ∙ n))
 
 -- how the NaN is made, and told
 pub zero-over-zero : (f : Format) → div f (ofBits f 0) (ofBits f 0) ≡ nan
 unfolding div ofBits
 zero-over-zero binary32 = refl
 zero-over-zero binary64 = refl
+
+pub nan-told : (f : Format) (x : Float) → ne x x ≡ true → nanWord f ≡ toBits f x
+nan-told f x e = sym (ap (toBits f) (differs-from-itself x (subst T (sym e) tt)) ∙ nan-written f)
 
 pub no-nan : (x : Float) → ne x x ≡ false → T (not (isNan x))
 unfolding isNan

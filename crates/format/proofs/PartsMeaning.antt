@@ -10,7 +10,7 @@ use lib.Dec.{ltb, lit<, lit≤}
 use lib.Pow.{pow-add, pow-mono, mod-mod-pow, shl-lt}
 use lib.Ieee.{Format, binary32, binary64, prec, emax, low, hid, ones, top}
 use lib.Ieee.Fits.{two}
-use Rattle.format.specs.Fields.{width, negative, exponent, fraction, signBit}
+use Rattle.format.specs.Fields.{width, negative, magnitude, exponent, fraction, signBit}
 use Rattle.format.specs.Exponent.{places}
 use Rattle.format.specs.Value.{unitsAt, units, Finite}
 use Rattle.format.specs.Parts.{belowPoint, truncWord, fractWord, written}
@@ -198,6 +198,9 @@ trunc-under f w l h = trunc-is f w l (in-width f w h)
 pub fract-under : (f : Format) (w : ℕ) → UnderWidth f w → IsFract f w (fractWord f w)
 fract-under f w h = fract-is f w (in-width f w h)
 
--- at binary32, in the gate's own word
+-- in the gates' own words
 pub under32-is : (w : ℕ) → (Under32 w → UnderWidth binary32 w) × (UnderWidth binary32 w → Under32 w)
 under32-is w = ((λ h. h), (λ h. h))
+
+pub under64-is : (w : ℕ) → (magnitude binary64 w < 0x43f0_0000_0000_0000 → UnderWidth binary64 w) × (UnderWidth binary64 w → magnitude binary64 w < 0x43f0_0000_0000_0000)
+under64-is w = ((λ h. h), (λ h. h))

@@ -17,7 +17,7 @@ every op = true
 
 -- ---- the rules
 
--- a number of the table, the operations that give it, and when it holds of an operation and its two words
+-- its number, the operations that give it, and when it holds of an operation and its two words
 pub record Refusal : Type 0 where
   pub number : ℕ
   pub by : ℕ → Bool

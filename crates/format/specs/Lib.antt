@@ -1,4 +1,4 @@
--- The definitions that the crates above cite, all over the formats of `lib.Ieee`.
+-- The definitions that the crates above cite, over the formats of `lib.Ieee`; and `First`, which is about lists of refusals.
 pub mod Fields
 pub mod Sign
 pub mod Exponent

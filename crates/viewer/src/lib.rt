@@ -45,8 +45,8 @@ fn length_of(scan: usize, retouch: usize, retouched: bool) -> usize
     scan
 }
 
-// That part itself: what stands in it, and in the row's own memory. The empty part of a refused call
-// begins where the scanned row does.
+// Lends that part itself, in the row's own memory. The empty part of a refused call begins where the
+// scanned row does.
 pub fn columns<'a>(
     scan: &'a [u32],
     retouch: &'a [u32],
