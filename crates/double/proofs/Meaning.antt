@@ -45,7 +45,7 @@ parts-of-double a r s k g h p q = parts-sum binary64 a _ _ (trunc-means a r k g 
 
 -- ---- the order of sqrt
 
--- of two answered calls, the one with the larger operand has the larger root, or the same
+-- of two answered calls the one with the larger operand has no smaller a root
 pub sqrt-never-falls : (a b : ℕ) (r s : Double) → Guards opSqrt a r → Guards opSqrt b s → Answered r → Answered s → units binary64 a ≤ units binary64 b
     → units binary64 (wordIn r) ≤ units binary64 (wordIn s)
 sqrt-never-falls a b r s g t h k l = rw (answered-word g h, answered-word t k) (root-keeps-order binary64 a b (sqrt-open a (answered-none g h)) (sqrt-open b (answered-none t k)) l)

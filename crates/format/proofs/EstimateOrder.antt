@@ -45,7 +45,7 @@ sqrt-keeps-order f w v u h =
 pub sqrt-rises : (f : Format) (w v : ℕ) → Unsigned f w → Unsigned f v → le (ofBits f w) (ofBits f v) ≡ true → NoLarger f (sqrtWord f w) (sqrtWord f v)
 sqrt-rises f w v p q h = sqrt-keeps-order f w v q (leb-true w v (sym (order-of-words f w v p q) ∙ h))
 
--- a guarded root, where a zero is its own and any other number is normal: the larger the number, the larger its root
+-- a guarded root, where a zero is its own and any other number is normal: the root of the larger of two numbers is no smaller
 pub root-keeps-order : (f : Format) (w v : ℕ) → (isZero f w ≡ false → Normal f w) → (isZero f v ≡ false → Normal f v) → units f w ≤ units f v
     → units f (cond (isZero f w) w (sqrtWord f w)) ≤ units f (cond (isZero f v) v (sqrtWord f v))
 root-keeps-order f w v n m h = go (isZero f w) (isZero f v) refl refl

@@ -90,7 +90,7 @@ module _ (a b : ℕ) (r : Answer) where
 
 -- ---- the order of sqrt
 
--- of two answered calls, the one with the larger operand has the larger root, or the same
+-- of two answered calls the one with the larger operand has no smaller a root
 pub sqrt-never-falls : (a b c d : ℕ) (r s : Answer) → Guards opSqrt a b r → Guards opSqrt c d s → Answered r → Answered s → units binary32 a ≤ units binary32 c
     → units binary32 (wordOf r) ≤ units binary32 (wordOf s)
 sqrt-never-falls a b c d r s g t h k l = rw (answered-word g h, answered-word t k) (root-keeps-order binary32 a c (root-operand a b r g h) (root-operand c d s t k) l)
