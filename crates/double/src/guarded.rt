@@ -106,13 +106,14 @@ fn root(x: F64) -> F64
     x.sqrt()
 }
 
-// The refusal where it is not 0, else the word's number. A caller shows that a word which is
-// answered is no NaN, so that the number keeps its bits.
+// The refusal where it is not 0, else the word's number. A word that is answered is no NaN, so its
+// bits are a float's as they are.
 fn answered(refusal: u32, word: F64) -> Double
-    ensures { λ r. ⌜ ((refusal ≡ 0 → nanBits binary64 (word .0) ≡ false) → Gives refusal (word .0) r) ⌝ }
+    requires { ⌜ (refusal ≡ 0 → nanBits binary64 (word .0) ≡ false) ⌝ }
+    ensures { λ r. ⌜ Gives refusal (word .0) r ⌝ }
 {
     if refusal != 0 {
         return Double::Refused(refusal);
     }
-    Double::Number(word.value())
+    Double::Number(f64::from_bits(word.0))
 }

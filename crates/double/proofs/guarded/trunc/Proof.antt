@@ -2,7 +2,7 @@
 use borrow.Author.Needs.{needs}
 use mathlib.Core.Path.{refl}
 use Rattle.double.specs.Operations.{opTrunc}
-use Rattle.double.proofs.Guards.{guards}
+use Rattle.double.proofs.Guards.{is-number, guards}
 use Rattle.double.proofs.Meaning.{trunc-means}
 use Rattle.double.proofs.guarded.trunc.Statement.{statement}
 use Rattle.double.proofs.guarded.trunc.Tie as tie
@@ -13,9 +13,9 @@ trunc-spec =
     (λ c κs. search needs)
     (λ c κs. search needs)
     (λ c κs. search needs)
-    (λ c κs. search needs)
+    (λ c κs. is-number opTrunc (c .before .before .before .args .x .0) _ _ _ (c .before .before .of .ensures) (c .before .first .ensures) (c .trunc .ensures .0) refl (search needs))
     (λ c.
     let w = c .before .before .before .before .args .x .0 in
-    let g = guards opTrunc w _ _ _ (c .answered .result) refl (search needs) (c .before .before .before .of .ensures) (c .before .before .first .ensures) (c .before .trunc .ensures .0) (c .answered .ensures) in
+    let g = guards opTrunc w _ _ _ (c .before .before .before .of .ensures) (c .before .before .first .ensures) (c .before .trunc .ensures .0) _ (c .answered .ensures) in
     (g, trunc-means w _ (search needs) g)) in
     tie.close met
