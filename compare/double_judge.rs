@@ -224,22 +224,24 @@ impl Fields {
     }
 }
 
+/// What is due by one of the two ways, given its guarded call and its raw one.
+#[inline(always)]
+fn due(op: u32, a: u64, guarded: impl Fn(Operation, u64) -> Answer, raw: impl Fn(Operation, u64) -> u64) -> Answer {
+    match known(op) {
+        None => Answer::refused(6),
+        Some((operation, true)) => guarded(operation, a),
+        Some((operation, false)) => Answer::word(raw(operation, a)),
+    }
+}
+
 /// What is due by the machine.
 #[inline(always)]
 pub fn by_machine(op: u32, a: u64) -> Answer {
-    match known(op) {
-        None => Answer::refused(6),
-        Some((operation, true)) => operation.guarded_by_machine(a),
-        Some((operation, false)) => Answer::word(operation.raw_by_machine(a)),
-    }
+    due(op, a, Operation::guarded_by_machine, Operation::raw_by_machine)
 }
 
 /// What is due by the fields.
 #[inline(always)]
 pub fn by_fields(op: u32, a: u64) -> Answer {
-    match known(op) {
-        None => Answer::refused(6),
-        Some((operation, true)) => operation.guarded_by_fields(a),
-        Some((operation, false)) => Answer::word(operation.raw_by_fields(a)),
-    }
+    due(op, a, Operation::guarded_by_fields, Operation::raw_by_fields)
 }
