@@ -1,6 +1,8 @@
 // The number type F32, which is its 32 bits, and the helpers of micromath's float.rs. The kernels
 // stand one to a file, under the crate's own names. `raw`, `guard`, `soft`,
 // `dampmeadow` and `probe` call it, and `sizes` measures its steps.
+#![tactic(auto)]
+
 ghost use Rattle.std.specs.Prelude.{◌≡◌, ◌+◌, ◌-◌, ◌%◌, ◌^◌, not, from_bits, to_bits};
 ghost use Rattle.std.specs.Float.{binary32};
 ghost use Rattle.std.specs.Float.Ieee.{emax, nan_bits};
@@ -41,7 +43,7 @@ pub mod trunc;
 pub mod wrap;
 
 // A number by its bits. Every word is one, each NaN pattern too.
-#[derive(Drop)]
+#[derive(Clone, Copy)]
 pub struct F32(pub u32);
 
 impl F32 {

@@ -7,7 +7,7 @@ ghost use Rattle.float.specs.Marks.{mark_of, number_of, Tells};
 
 use crate::F32;
 
-#[derive(Drop)]
+#[derive(Clone, Copy)]
 pub enum Mark {
     // The integer is the number.
     Exact,
@@ -37,14 +37,14 @@ impl Mark {
 }
 
 // An integer, with the mark of the cast that it is from.
-#[derive(Drop)]
+#[derive(Clone, Copy)]
 pub struct Casted {
     pub value: i32,
     pub mark: Mark,
 }
 
 // A number that a cast was made for, with the mark of the cast.
-#[derive(Drop)]
+#[derive(Clone, Copy)]
 pub struct Marked {
     pub number: F32,
     pub mark: Mark,

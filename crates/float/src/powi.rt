@@ -6,7 +6,7 @@ ghost use Rattle.float.specs.Powi.{squared, ended, taken, works, from, start, po
 use crate::{F32, cast, wrap};
 
 // A number, and how many products were formed for it.
-#[derive(Drop)]
+#[derive(Clone, Copy)]
 pub struct Counted {
     pub number: F32,
     pub products: u32,
@@ -153,7 +153,7 @@ fn magnitude(n: i32) -> u32
 
 // What is held between two products, and how many were formed before: for a magnitude of 32 bits 63
 // at most, so that one more can be counted.
-#[derive(Drop)]
+#[derive(Clone, Copy)]
 struct Held {
     base: f32,
     result: f32,

@@ -11,13 +11,13 @@ acos_spec =
     (λ c κs. search rules)
     (λ c κs. search rules)
     (λ c κs. search rules)
-    (λ c. let test = c.before.before in rw (← test.before.value.ensures, test.if1.true) (cc))
-    (λ c. rw (← c.before.before.value.ensures, c.before.if1.false, c.if2.true))
+    (λ c. let test = c.before.before in rw (← test.before.value-x.ensures, test.if-x.true) (cc))
+    (λ c. rw (← c.before.before.value-x.ensures, c.before.if-x.false, c.if-x-2.true))
     (λ c κs. search rules)
     (λ c κs. search rules)
     (λ c κs. search rules)
     (λ c κs. search rules)
     (λ c.
     let test = c.before.before.before.before in
-    rw (← test.before.before.value.ensures, test.before.if1.false, test.if2.false) (cc)) in
+    rw (← test.before.before.value-x.ensures, test.before.if-x.false, test.if-x-2.false) (cc)) in
     tie.close met

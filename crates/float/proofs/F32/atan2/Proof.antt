@@ -17,9 +17,9 @@ atan2_spec =
     (λ c κs. search rules)
     (λ c.
     let asked = c.before.before in
-    c.of.ensures ∙ picked asked.before.args.self.0 asked.before.args.rhs.0 _ _ asked.quarters.ensures c.before.if1.true)
+    c.of.ensures ∙ picked asked.before.args.self.0 asked.before.args.rhs.0 _ _ asked.quarters-quarters.ensures c.before.if-quarters.true)
     (λ c κs. search rules)
     (λ c.
     let asked = c.before.before in
-    c.of2.ensures ∙ picked asked.before.args.self.0 asked.before.args.rhs.0 _ _ asked.quarters.ensures c.before.if1.false) in
+    c.of-2.ensures ∙ picked asked.before.args.self.0 asked.before.args.rhs.0 _ _ asked.quarters-quarters.ensures c.before.if-quarters.false) in
     tie.close met

@@ -8,7 +8,7 @@ use Rattle.float.proofs.Signs.{nan_answered, or_answered}
 use Rattle.float.proofs.F32.atan_norm.Statement.{statement}
 use Rattle.float.proofs.F32.atan_norm.Tie as tie
 
-answer_is : (c : tie.After-of) → let w = c.before.before.before.args.self.0 in signed_answer (negative binary32 w) c.of.result.0 ≡ atan_norm_word ieee w
+answer_is : (c : tie.After-of-quotient) → let w = c.before.before.before.args.self.0 in signed_answer (negative binary32 w) c.of-quotient.result.0 ≡ atan_norm_word ieee w
 unfolding atan_norm_word
 answer_is c = cc
 
@@ -21,11 +21,11 @@ atan_norm_spec =
     (λ c κs. search rules)
     (λ c.
     let found = c.before.before in
-    nan_answered (negative binary32 found.before.before.before.args.self.0) found.of.result.0 (sym c.before.is_nan.ensures ∙ c.if1.true) ∙ answer_is found)
+    nan_answered (negative binary32 found.before.before.before.args.self.0) found.of-quotient.result.0 (sym c.before.is_nan.ensures ∙ c.if-is_nan.true) ∙ answer_is found)
     (λ c.
     let tested = c.before.before.before in
     let found = tested.before in
-    or_answered found.before.before.before.args.self.0 found.of.result.0 c.before.struct_known.given.0.fits c.struct-known2.given.0.fits
-    (sym tested.is_nan.ensures ∙ c.before.before.if1.false)
+    or_answered found.before.before.before.args.self.0 found.of-quotient.result.0 c.before.struct_known-1.given.0.fits c.struct_known-2-1.given.0.fits
+    (sym tested.is_nan.ensures ∙ c.before.before.if-is_nan.false)
     ∙ answer_is found) in
     tie.close met

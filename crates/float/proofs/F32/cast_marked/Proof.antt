@@ -1,5 +1,5 @@
 -- `float::F32::cast_marked` meets its contract: the integer is the cast's, and the mark tells the truth of it. Assumes nothing.
-use Rattle.std.proofs.Common.{◌∙◌, to_z-of_z, rules}
+use Rattle.std.proofs.Common.{◌∙◌, to_z-of_z, w32, rules}
 use Rattle.float.proofs.Marks.{told}
 use Rattle.float.proofs.F32.cast_marked.Statement.{statement}
 use Rattle.float.proofs.F32.cast_marked.Tie as tie
@@ -11,6 +11,6 @@ cast_marked_spec =
     (λ c κs. search rules)
     (λ c.
     told c.before.before.args.self.0
-    (to_z-of_z (record { sfits = c.before.to-i32.type-inv }) ∙ c.before.to-i32.ensures)
-    c.of-cast.ensures) in
+    (to_z-of_z {w = w32} (record { sfits = c.before.to_i32.type_inv }) ∙ c.before.to_i32.ensures)
+    c.of_cast.ensures) in
     tie.close met

@@ -14,11 +14,11 @@ use Rattle.float.proofs.F32.ceil.Statement.{statement}
 use Rattle.float.proofs.F32.ceil.Tie as tie
 
 -- the floor's word is that of the negated number
-down_is : (c : tie.After-floor) → c.floor.result.0 ≡ to_bits binary32 (floor_value binary32 (neg (of_bits binary32 c.before.before.args.self.0)))
+down_is : (c : tie.After-floor-down) → c.floor-down.result.0 ≡ to_bits binary32 (floor_value binary32 (neg (of_bits binary32 c.before.before.args.self.0)))
 down_is c =
     let w = c.before.before.args.self.0 in
-    c.floor.ensures.0
-    ∙ ap (λ (x : Float). to_bits binary32 (floor_value binary32 x)) (ap (of_bits binary32) (turn_sign binary32 w c.before.struct_known.given.0.fits) ∙ turned_read binary32 w)
+    c.floor-down.ensures.0
+    ∙ ap (λ (x : Float). to_bits binary32 (floor_value binary32 x)) (ap (of_bits binary32) (turn_sign binary32 w c.before.struct_known-1.given.0.fits) ∙ turned_read binary32 w)
 
 pub ceil_spec : {M : Type 1} → statement M
 ceil_spec =
@@ -28,7 +28,7 @@ ceil_spec =
     let w = c.before.before.before.args.self.0 in
     let x = neg (of_bits binary32 w) in
     both (IsCeil binary32 w)
-    (turn_sign binary32 c.before.floor.result.0 c.struct-known2.given.0.fits
+    (turn_sign binary32 c.before.floor-down.result.0 c.struct_known-2-1.given.0.fits
     ∙ ap (turned_word binary32) (down_is c.before)
     ∙ sym (turned_written binary32 (floor_value binary32 x) (floor_fits binary32 x) (floor_no_nan binary32 x)))
     (ceil_is w)) in

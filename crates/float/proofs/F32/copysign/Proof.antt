@@ -12,7 +12,7 @@ returns : tie.Need-returns
 returns c =
     let w = c.before.before.args.self.0 in
     let y = c.before.before.args.sign.0 in
-    let e = signed_like binary32 w y c.struct-known2.given.0.fits in
+    let e = signed_like binary32 w y c.struct_known-2-1.given.0.fits in
     (e, subst (SignSet binary32 (negative binary32 y) w) (sym e) (copysign_is binary32 w y))
 
 pub copysign_spec : {M : Type 1} → statement M

@@ -9,21 +9,21 @@ unfolding exp_word
 exp_spec =
     let met = tie.spec
     (λ c κs. search rules)
-    (λ c. rw (← c.before.value.ensures, c.if1.true))
+    (λ c. rw (← c.before.value-x.ensures, c.if-x.true))
     (λ c κs. search rules)
     (λ c.
     let one = c.before in
-    rw (← one.before.before.value.ensures, one.before.if1.false, ← one.is_at.ensures, c.if2.true))
+    rw (← one.before.before.value-x.ensures, one.before.if-x.false, ← one.is_at.ensures, c.if-is_at.true))
     (λ c κs. search rules)
     (λ c κs. search rules)
     (λ c.
     let other = c.before.before in
     let one = other.before.before in
-    rw (← one.before.before.value.ensures, one.before.if1.false, ← one.is_at.ensures, other.before.if2.false, ← other.is-at2.ensures, c.before.if3.true) (cc))
+    rw (← one.before.before.value-x.ensures, one.before.if-x.false, ← one.is_at.ensures, other.before.if-is_at.false, ← other.is_at-2.ensures, c.before.if-is_at-2.true) (cc))
     (λ c κs. search rules)
     (λ c κs. search rules)
     (λ c.
     let other = c.before.before.before in
     let one = other.before.before in
-    rw (← one.before.before.value.ensures, one.before.if1.false, ← one.is_at.ensures, other.before.if2.false, ← other.is-at2.ensures, c.before.before.if3.false) (cc)) in
+    rw (← one.before.before.value-x.ensures, one.before.if-x.false, ← one.is_at.ensures, other.before.if-is_at.false, ← other.is_at-2.ensures, c.before.before.if-is_at-2.false) (cc)) in
     tie.close met

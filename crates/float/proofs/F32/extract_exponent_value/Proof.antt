@@ -5,8 +5,8 @@ use Rattle.float.proofs.Twos.{Less, less}
 use Rattle.float.proofs.F32.extract_exponent_value.Statement.{statement}
 use Rattle.float.proofs.F32.extract_exponent_value.Tie as tie
 
-field_less : (c : tie.After-extract-exponent-bits) → Less c.extract-exponent-bits.result 127
-field_less c = let h : c.extract-exponent-bits.result < 2 ^ 31 = omega arith in less c.extract-exponent-bits.result 126 h (lit≤ tt)
+field_less : (c : tie.After-extract_exponent_bits) → Less c.extract_exponent_bits.result 127
+field_less c = let h : c.extract_exponent_bits.result < 2 ^ 31 = omega arith in less c.extract_exponent_bits.result 126 h (lit≤ tt)
 
 pub extract_exponent_value_spec : {M : Type 1} → statement M
 extract_exponent_value_spec =
@@ -14,5 +14,5 @@ extract_exponent_value_spec =
     (λ c κs. search rules)
     (λ c. search rules)
     (λ c. (field_less c).subs)
-    (λ c. (field_less c).is ∙ ap (λ (x : ℕ). minus x 127) c.extract-exponent-bits.ensures) in
+    (λ c. (field_less c).is ∙ ap (λ (x : ℕ). minus x 127) c.extract_exponent_bits.ensures) in
     tie.close met

@@ -22,19 +22,19 @@ even_is : (z : ℤ) → eqb (of_z w32 (rem_z z (pos 2))) 0 ≡ eqb (nat_abs z % 
 even_is (pos a) = refl
 even_is (negsuc a) = negated_zero (suc a % 2) (omega arith)
 
-back_is : (c : tie.After-to-i32) → to_z w32 (of_z w32 c.to-i32.result) ≡ c.to-i32.result
-back_is c = to_z-of_z (record { sfits = c.to-i32.type-inv })
+back_is : (c : tie.After-to_i32) → to_z w32 (of_z w32 c.to_i32.result) ≡ c.to_i32.result
+back_is c = to_z-of_z {w = w32} (record { sfits = c.to_i32.type_inv })
 
 pub is_even_spec : {M : Type 1} → statement M
 is_even_spec =
     let met = tie.spec
     (λ c κs. search rules)
     (λ c. search rules)
-    (λ c. rw (le-leb 158 _ (subst (λ (x : ℕ). 158 ≤ x) c.before.extract-exponent-bits.ensures c.if1.true)))
+    (λ c. rw (le-leb 158 _ (subst (λ (x : ℕ). 158 ≤ x) c.before.extract_exponent_bits.ensures c.if-extract_exponent_bits.true)))
     (λ c κs. search rules)
-    (λ c. (lit< tt, subst (λ (z : ℤ). SFits w32 (quot_z z (pos 2))) (sym (back_is c)) (half_fits c.to-i32.result (record { sfits = c.to-i32.type-inv }))))
+    (λ c. (lit< tt, subst (λ (z : ℤ). SFits w32 (quot_z z (pos 2))) (sym (back_is c)) (half_fits c.to_i32.result (record { sfits = c.to_i32.type_inv }))))
     (λ c.
     ap (λ (z : ℤ). eqb (of_z w32 (rem_z z (pos 2))) 0) (back_is c)
-    ∙ even_is c.to-i32.result
-    ∙ rw (c.to-i32.ensures, lt-leb 158 _ (subst (λ (x : ℕ). x < 158) c.before.before.extract-exponent-bits.ensures c.before.if1.false))) in
+    ∙ even_is c.to_i32.result
+    ∙ rw (c.to_i32.ensures, lt-leb 158 _ (subst (λ (x : ℕ). x < 158) c.before.before.extract_exponent_bits.ensures c.before.if-extract_exponent_bits.false))) in
     tie.close met

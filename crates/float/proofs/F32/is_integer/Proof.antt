@@ -10,5 +10,5 @@ is_integer_spec =
     let met = tie.spec
     (λ c κs. search rules)
     (λ c κs. search rules)
-    (λ c. ap (λ (x : ℕ). eqb x 0) (masked binary32 c.before.before.args.self.0 _ _ c.before.exponent-clamped.ensures c.shl.ensures)) in
+    (λ c. ap (λ (x : ℕ). eqb x 0) (masked binary32 c.before.before.args.self.0 _ _ c.before.exponent_clamped.ensures c.shl.ensures)) in
     tie.close met

@@ -12,18 +12,18 @@ ln_spec =
     (λ c κs. search rules)
     (λ c.
     let asked = c.before in
-    rw (← asked.before.value.ensures, ← asked.is_at.ensures, c.if1.true))
+    rw (← asked.before.value-x.ensures, ← asked.is_at.ensures, c.if-is_at.true))
     (λ c κs. search rules)
     (λ c κs. search rules)
     (λ c κs. search rules)
     (λ c.
     let test = c.before.before.before in
     let asked = test.before.before in
-    rw (← asked.before.value.ensures, ← asked.is_at.ensures, test.before.if1.false, test.if2.true) (cc c.before.before.inv.ensures.0))
+    rw (← asked.before.value-x.ensures, ← asked.is_at.ensures, test.before.if-is_at.false, test.if-x.true) (cc c.before.before.inv.ensures.0))
     (λ c κs. search rules)
     (λ c κs. search rules)
     (λ c.
     let test = c.before.before in
     let asked = test.before.before in
-    rw (← asked.before.value.ensures, ← asked.is_at.ensures, test.before.if1.false, test.if2.false) (cc)) in
+    rw (← asked.before.value-x.ensures, ← asked.is_at.ensures, test.before.if-is_at.false, test.if-x.false) (cc)) in
     tie.close met

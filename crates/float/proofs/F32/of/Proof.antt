@@ -9,6 +9,6 @@ pub of_spec : {M : Type 1} → statement M
 of_spec =
     tie.close
     (tie.spec
-    (λ c. no_nan c.before.args.x c.if1.false)
-    (λ c. nan_told binary32 c.before.args.x c.if1.true)
+    (λ c. no_nan c.before.args.x c.if-x.false)
+    (λ c. nan_told binary32 c.before.args.x c.if-x.true)
     (λ c. search rules))

@@ -20,10 +20,10 @@ test_is : (c : tie.After-value) → le (of_bits binary32 0) c.value.result ≡ a
 test_is c = ap (le (of_bits binary32 0)) c.value.ensures
 
 -- the magnitude raised, where the power is whole
-size_is : (c : tie.After-raised2) → let a = c.before.before.before.before.before.before.args in c.raised2.result.0 ≡ raised_word (magnitude binary32 a.self.0) a.n.0
+size_is : (c : tie.After-raised-size) → let a = c.before.before.before.before.before.before.args in c.raised-size.result.0 ≡ raised_word (magnitude binary32 a.self.0) a.n.0
 size_is c =
     let a = c.before.before.before.before.before.before.args in
-    c.raised2.ensures ∙ ap (λ (w : ℕ). raised_word w a.n.0) c.before.without_sign.ensures
+    c.raised-size.ensures ∙ ap (λ (w : ℕ). raised_word w a.n.0) c.before.without_sign.ensures
 
 pub powf_spec : {M : Type 1} → statement M
 powf_spec =
@@ -32,11 +32,11 @@ powf_spec =
     (λ c κs. search rules)
     (λ c.
     let a = c.before.before.before.args in
-    c.raised.ensures ∙ picked a.self.0 a.n.0 true _ _ (sym (test_is c.before.before) ∙ c.before.if1.true) refl refl)
+    c.raised.ensures ∙ picked a.self.0 a.n.0 true _ _ (sym (test_is c.before.before) ∙ c.before.if-value.true) refl refl)
     (λ c κs. search rules)
     (λ c.
     let a = c.before.before.before.before.args in
-    picked a.self.0 a.n.0 false false _ (sym (test_is c.before.before.before) ∙ c.before.before.if1.false) (sym c.before.is-integer.ensures ∙ not-true _ c.if2.true) refl)
+    picked a.self.0 a.n.0 false false _ (sym (test_is c.before.before.before) ∙ c.before.before.if-value.false) (sym c.before.is_integer.ensures ∙ c.if-not-is_integer.true) refl)
     (λ c κs. search rules)
     (λ c κs. search rules)
     (λ c κs. search rules)
@@ -44,17 +44,17 @@ powf_spec =
     let even = c.before in
     let start = even.before.before.before.before.before.before.before in
     size_is even.before
-    ∙ picked start.args.self.0 start.args.n.0 false true true (sym (test_is even.before.before.before.before.before.before) ∙ even.before.before.before.before.before.if1.false)
-    (sym even.before.before.before.before.is-integer.ensures ∙ not-false _ even.before.before.before.if2.false)
-    (sym even.is-even.ensures ∙ c.if3.true))
+    ∙ picked start.args.self.0 start.args.n.0 false true true (sym (test_is even.before.before.before.before.before.before) ∙ even.before.before.before.before.before.if-value.false)
+    (sym even.before.before.before.before.is_integer.ensures ∙ even.before.before.before.if-not-is_integer.false)
+    (sym even.is_even.ensures ∙ c.if-is_even.true))
     (λ c κs. search rules)
     (λ c κs. search rules)
     (λ c.
     let even = c.before.before.before in
     let start = even.before.before.before.before.before.before.before in
     c.of.ensures
-    ∙ ap (λ (x : Float). to_bits binary32 (neg x)) (c.before.value2.ensures ∙ ap (of_bits binary32) (size_is even.before))
-    ∙ picked start.args.self.0 start.args.n.0 false true false (sym (test_is even.before.before.before.before.before.before) ∙ even.before.before.before.before.before.if1.false)
-    (sym even.before.before.before.before.is-integer.ensures ∙ not-false _ even.before.before.before.if2.false)
-    (sym even.is-even.ensures ∙ c.before.before.if3.false)) in
+    ∙ ap (λ (x : Float). to_bits binary32 (neg x)) (c.before.value-2.ensures ∙ ap (of_bits binary32) (size_is even.before))
+    ∙ picked start.args.self.0 start.args.n.0 false true false (sym (test_is even.before.before.before.before.before.before) ∙ even.before.before.before.before.before.if-value.false)
+    (sym even.before.before.before.before.is_integer.ensures ∙ even.before.before.before.if-not-is_integer.false)
+    (sym even.is_even.ensures ∙ c.before.before.if-is_even.false)) in
     tie.close met

@@ -8,5 +8,5 @@ pub powi_spec : {M : Type 1} → statement M
 powi_spec =
     let met = tie.spec
     (λ c κs. search rules)
-    (λ c. let first = c.before.before in c.before.powi-counted.ensures.0 ∙ ap (powi_word first.args.self.0) (to_z-of_z first.ranges.n)) in
+    (λ c. let first = c.before.before in c.before.powi_counted.ensures.0 ∙ ap (powi_word first.args.self.0) (to_z-of_z first.ranges.n)) in
     tie.close met

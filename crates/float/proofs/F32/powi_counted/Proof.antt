@@ -28,81 +28,81 @@ far w n = cond (is_past w n) (some (infinite w n)) (cond (is_below w n) (some 0)
 
 -- ---- what is left after each test
 
-past_zero : (c : tie.Else3) → let a = c.before.before.before.before.args in
+past_zero : (c : tie.Else-is_zero_and_stays) → let a = c.before.before.before.before.args in
     early a.self.0 a.n ≡ cond (is_near_one a.self.0) none (far a.self.0 a.n)
 past_zero c =
-    let e = sym c.before.is-zero-and-stays.ensures ∙ c.if3.false in
+    let e = sym c.before.is_zero_and_stays.ensures ∙ c.if-is_zero_and_stays.false in
     simp (
-      ne_eqb _ (2 ^ 31) c.before.before.before.if1.false,
-      ne_eqb _ 0 c.before.before.if2.false,
+      ne_eqb _ (2 ^ 31) c.before.before.before.if-n-eqminus2147483648.false,
+      ne_eqb _ 0 c.before.before.if-n-eq0.false,
       (rw (to_z-of_z c.before.before.before.before.ranges.n) at e),
     )
 
-past_near : (c : tie.Else4) → let a = c.before.before.before.before.before.before.args in
+past_near : (c : tie.Else-is_near_one) → let a = c.before.before.before.before.before.before.args in
     early a.self.0 a.n ≡ far a.self.0 a.n
-past_near c = past_zero c.before.before ∙ simp (sym c.before.is-near-one.ensures ∙ c.if4.false)
+past_near c = past_zero c.before.before ∙ simp (sym c.before.is_near_one.ensures ∙ c.if-is_near_one.false)
 
-past_is : (c : tie.After-is-past) → let a = c.before.before.before.before.before.before.before.args in
-    is_past a.self.0 a.n ≡ c.is-past.result
+past_is : (c : tie.After-is_past) → let a = c.before.before.before.before.before.before.before.args in
+    is_past a.self.0 a.n ≡ c.is_past.result
 past_is c =
     let first = c.before.before.before.before.before.before.before in
-    sym (c.is-past.ensures ∙ ap (is_past first.args.self.0) (to_z-of_z first.ranges.n))
+    sym (c.is_past.ensures ∙ ap (is_past first.args.self.0) (to_z-of_z first.ranges.n))
 
 approx_is : (c : tie.After-approx) → let a = c.before.before.before.before.before.before.before.before.before.args in
     to_z w32 (of_z w32 c.approx.result) ≡ approx a.self.0 a.n
 approx_is c =
     let first = c.before.before.before.before.before.before.before.before.before in
-    to_z-of_z (record { sfits = c.approx.type-inv }) ∙ c.approx.ensures ∙ ap (approx first.args.self.0) (to_z-of_z first.ranges.n)
+    to_z-of_z {w = w32} (record { sfits = c.approx.type_inv }) ∙ c.approx.ensures ∙ ap (approx first.args.self.0) (to_z-of_z first.ranges.n)
 
 -- ---- the returns
 
-returns_3 : tie.Need-returns-3
+returns_3 : tie.Need-returns-then-is_zero_and_stays
 returns_3 c =
     let stays = c.before.before in
     let first = stays.before.before.before in
-    let e = sym stays.is-zero-and-stays.ensures ∙ c.before.if3.true in
+    let e = sym stays.is_zero_and_stays.ensures ∙ c.before.if-is_zero_and_stays.true in
     at_once first.args.self.0 first.args.n first.args.self.0 _ _
-    (simp (ne_eqb _ (2 ^ 31) stays.before.before.if1.false, ne_eqb _ 0 stays.before.if2.false, (rw (to_z-of_z first.ranges.n) at e)))
-    c.early3.ensures refl
+    (simp (ne_eqb _ (2 ^ 31) stays.before.before.if-n-eqminus2147483648.false, ne_eqb _ 0 stays.before.if-n-eq0.false, (rw (to_z-of_z first.ranges.n) at e)))
+    c.early-then-is_zero_and_stays.ensures refl
 
-returns_4 : tie.Need-returns-4
+returns_4 : tie.Need-returns-then-is_near_one
 returns_4 c =
     let near = c.before.before in
     let first = near.before.before.before.before.before in
     by_squaring first.args.self.0 first.args.n _ _
-    (past_zero near.before ∙ simp (sym near.is-near-one.ensures ∙ c.before.if4.true)) (to_z-of_z first.ranges.n) c.multiplied.ensures
+    (past_zero near.before ∙ simp (sym near.is_near_one.ensures ∙ c.before.if-is_near_one.true)) (to_z-of_z first.ranges.n) c.multiplied.ensures
 
-returns_5 : tie.Need-returns-5
+returns_5 : tie.Need-returns-then-is_past
 returns_5 c =
     let past = c.before.before.before in
     let first = past.before.before.before.before.before.before.before in
     at_once first.args.self.0 first.args.n (infinite first.args.self.0 first.args.n) _ _
-    (past_near past.before ∙ simp (past_is past ∙ c.before.before.if5.true))
-    c.early4.ensures (c.before.infinite.ensures ∙ ap (infinite first.args.self.0) (to_z-of_z first.ranges.n))
+    (past_near past.before ∙ simp (past_is past ∙ c.before.before.if-is_past.true))
+    c.early-then-is_past.ensures (c.before.infinite.ensures ∙ ap (infinite first.args.self.0) (to_z-of_z first.ranges.n))
 
-returns_6 : tie.Need-returns-6
+returns_6 : tie.Need-returns-then-approx-ltminus149
 returns_6 c =
     let past = c.before.before.before.before in
     let first = past.before.before.before.before.before.before.before in
     at_once first.args.self.0 first.args.n 0 _ _
-    (past_near past.before ∙ simp (past_is past ∙ c.before.before.before.if5.false, (rw (approx_is c.before.before) at c.before.if6.true)))
-    c.early5.ensures refl
+    (past_near past.before ∙ simp (past_is past ∙ c.before.before.before.if-is_past.false, (rw (approx_is c.before.before) at c.before.if-approx-ltminus149.true)))
+    c.early-then-approx-ltminus149.ensures refl
 
-returns_7 : tie.Need-returns-7
+returns_7 : tie.Need-returns
 returns_7 c =
     let past = c.before.before.before.before in
     let first = past.before.before.before.before.before.before.before in
     by_squaring first.args.self.0 first.args.n _ _
-    (past_near past.before ∙ simp (past_is past ∙ c.before.before.before.if5.false, (rw (approx_is c.before.before) at c.before.if6.false)))
-    (to_z-of_z first.ranges.n) c.multiplied2.ensures
+    (past_near past.before ∙ simp (past_is past ∙ c.before.before.before.if-is_past.false, (rw (approx_is c.before.before) at c.before.if-approx-ltminus149.false)))
+    (to_z-of_z first.ranges.n) c.multiplied-2.ensures
 
 pub powi_counted_spec : {M : Type 1} → statement M
 powi_counted_spec =
     let met = tie.spec
     (λ c κs. search rules)
-    (λ c. at_once _ _ 0x7fc0_0000 _ _ (rw (eq-eqb _ (2 ^ 31) c.before.if1.true)) c.early.ensures refl)
+    (λ c. at_once _ _ 0x7fc0_0000 _ _ (rw (eq-eqb _ (2 ^ 31) c.before.if-n-eqminus2147483648.true)) c.early.ensures refl)
     (λ c κs. search rules)
-    (λ c. at_once _ _ 0x3f80_0000 _ _ (simp (ne_eqb _ (2 ^ 31) c.before.before.if1.false, eq-eqb _ 0 c.before.if2.true)) c.early2.ensures refl)
+    (λ c. at_once _ _ 0x3f80_0000 _ _ (simp (ne_eqb _ (2 ^ 31) c.before.before.if-n-eqminus2147483648.false, eq-eqb _ 0 c.before.if-n-eq0.true)) c.early-then-n-eq0.ensures refl)
     (λ c κs. search rules)
     (λ c κs. search rules)
     returns_3

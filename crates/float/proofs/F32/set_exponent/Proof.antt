@@ -14,8 +14,8 @@ returns c =
     ap (bit_or (bit_and a.self.0 0x807f_ffff))
     (c.shl.ensures
     ∙ ap (moved binary32)
-    (c.before.before.sum.ensures
-    ∙ ap (λ (x : ℕ). (x + 127) % 2 ^ 32) (c.before.before.before.bits-of-i32.ensures ∙ ap (of_z w32) (to_z-of_z start.ranges.exponent))))
+    (c.before.before.sum-field.ensures
+    ∙ ap (λ (x : ℕ). (x + 127) % 2 ^ 32) (c.before.before.before.bits_of_i32.ensures ∙ ap (of_z w32) (to_z-of_z start.ranges.exponent))))
     ∙ set_field binary32 a.self.0 ((of_z w32 a.exponent + 127) % 2 ^ 32) (search rules)
 
 pub set_exponent_spec : {M : Type 1} → statement M

@@ -8,6 +8,6 @@ signum_spec =
     let met = tie.spec
     (λ c κs. search rules)
     (λ c κs. search rules)
-    (λ c. simp (sym c.before.is_nan.ensures ∙ c.if1.true))
-    (λ c. c.copysign.ensures.0 ∙ simp (sym c.before.before.is_nan.ensures ∙ c.before.if1.false)) in
+    (λ c. simp (sym c.before.is_nan.ensures ∙ c.if-is_nan.true))
+    (λ c. c.copysign.ensures.0 ∙ simp (sym c.before.before.is_nan.ensures ∙ c.before.if-is_nan.false)) in
     tie.close met

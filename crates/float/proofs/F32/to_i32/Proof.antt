@@ -13,18 +13,18 @@ use Rattle.float.proofs.F32.to_i32.Tie as tie
 abbrev part : ℕ → ℕ → ℕ
 part w k = (2 ^ 23 + w % 2 ^ 23) * 2 ^ 8 / 2 ^ k
 
-field_le : (c : tie.After-below-64) → exponent binary32 c.before.before.before.before.args.self.0 ≤ 157
-field_le c = subst (λ (x : ℕ). x ≤ 157) c.before.before.before.extract-exponent-bits.ensures (omega arith)
+field_le : (c : tie.After-below_64) → exponent binary32 c.before.before.before.before.args.self.0 ≤ 157
+field_le c = subst (λ (x : ℕ). x ≤ 157) c.before.before.before.extract_exponent_bits-exponent.ensures (omega arith)
 
-part_is : (c : tie.After-below-64) → let w = c.before.before.before.before.args.self.0 in part w c.below_64.result ≡ shifted w
+part_is : (c : tie.After-below_64) → let w = c.before.before.before.before.args.self.0 in part w c.below_64.result ≡ shifted w
 part_is c =
     let w = c.before.before.before.before.args.self.0 in
-    ap (part w) (c.below_64.ensures ∙ ap (λ (x : ℕ). min (158 - x) 63) c.before.before.before.extract-exponent-bits.ensures)
+    ap (part w) (c.below_64.ensures ∙ ap (λ (x : ℕ). min (158 - x) 63) c.before.before.before.extract_exponent_bits-exponent.ensures)
 
-part_lt : (c : tie.After-below-64) → part c.before.before.before.before.args.self.0 c.below_64.result < 2 ^ 31
+part_lt : (c : tie.After-below_64) → part c.before.before.before.before.args.self.0 c.below_64.result < 2 ^ 31
 part_lt c = subst (λ (n : ℕ). n < 2 ^ 31) (sym (part_is c)) (shifted_lt c.before.before.before.before.args.self.0 (field_le c))
 
-within : (c : tie.After-is-sign-negative) → let w = c.before.before.before.before.before.args.self.0 in
+within : (c : tie.After-is_sign_negative) → let w = c.before.before.before.before.before.args.self.0 in
     let n = part w c.before.below_64.result in
     Casts w (cond c.is_sign_negative.result (neg_ℤ (pos n)) (pos n))
 within c =
@@ -52,5 +52,5 @@ to_i32_spec =
     (λ c. record { sfits = part_lt c })
     (λ c κs. search rules)
     (λ c. (negated _ (part_lt c.before.before)).subs)
-    (λ c. (negated _ (part_lt c.before.before)).is ∙ sym (within c.before ∙ rw c.if2.true))
-    (λ c. to_z_pos w32 (part_lt c.before.before) ∙ sym (within c.before ∙ rw c.if2.false)))
+    (λ c. (negated _ (part_lt c.before.before)).is ∙ sym (within c.before ∙ rw c.if-is_sign_negative.true))
+    (λ c. to_z_pos w32 (part_lt c.before.before) ∙ sym (within c.before ∙ rw c.if-is_sign_negative.false)))

@@ -20,5 +20,5 @@ quarters_spec =
     let signs = c.before.before.before.before in
     let divided = signs.before.before in
     let a = divided.before.before.before.before.args in
-    cc (signs_or a.y.0 a.x.0 signs.struct-known2.given.0.fits signs.before.struct_known.given.0.fits divided.of.result.0 c.before.struct-known3.given.0.fits)) in
+    cc (signs_or a.y.0 a.x.0 signs.struct_known-2-1.given.0.fits signs.before.struct_known-1.given.0.fits divided.of-quotient.result.0 c.before.struct_known-3-1.given.0.fits)) in
     tie.close met

@@ -15,7 +15,7 @@ pub from_i32_spec : {M : Type 1} → statement M
 from_i32_spec =
     tie.close
     (tie.spec
-    (λ c. within _ c.before.before.if1.true c.before.if2.true)
+    (λ c. within _ c.before.before.if-n-lt16777216.true c.before.if-n-gtminus16777216.true)
     (λ c. search rules)
     (λ c κs. search rules)
-    (λ c. c.nearest-i32-to-f32.ensures ∙ ap (of_int binary32) (to_z-of_z c.before.before.ranges.n)))
+    (λ c. c.nearest_i32_to_f32.ensures ∙ ap (of_int binary32) (to_z-of_z c.before.before.ranges.n)))

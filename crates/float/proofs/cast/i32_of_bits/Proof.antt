@@ -5,8 +5,8 @@ use Rattle.float.proofs.Twos.{lowered}
 use Rattle.float.proofs.cast.i32_of_bits.Statement.{statement}
 use Rattle.float.proofs.cast.i32_of_bits.Tie as tie
 
-lower : (c : tie.Else1) → to_z w32 (c.before.args.w - 2 ^ 31) +ℤ negsuc (2 ^ 31 - 1) ≡ to_z w32 c.before.args.w
-lower c = lowered c.before.args.w c.if1.false c.before.ranges.w.fits
+lower : (c : tie.Else-w-lt2147483648) → to_z w32 (c.before.args.w - 2 ^ 31) +ℤ negsuc (2 ^ 31 - 1) ≡ to_z w32 c.before.args.w
+lower c = lowered c.before.args.w c.if-w-lt2147483648.false c.before.ranges.w.fits
 
 pub i32_of_bits_spec : {M : Type 1} → statement M
 i32_of_bits_spec =

@@ -58,10 +58,10 @@ saturating_sum_spec =
     (λ c. back_fits c.args.a c.ranges.a)
     (λ c. back_fits c.args.b c.ranges.b)
     (λ c. sum_fits c.args.a c.args.b c.ranges.a c.ranges.b)
-    (λ c. let f = c.before in past _ _ (sum_is f.args.a f.args.b f.ranges.a f.ranges.b) c.if1.true)
-    (λ c. let f = c.before.before in below _ _ (sum_is f.args.a f.args.b f.ranges.a f.ranges.b) c.before.if1.false c.if2.true)
-    (λ c. fits_within _ c.before.if1.false c.if2.false)
+    (λ c. let f = c.before in past _ _ (sum_is f.args.a f.args.b f.ranges.a f.ranges.b) c.if-sum-gt2147483647.true)
+    (λ c. let f = c.before.before in below _ _ (sum_is f.args.a f.args.b f.ranges.a f.ranges.b) c.before.if-sum-gt2147483647.false c.if-sum-ltminus2147483648.true)
+    (λ c. fits_within _ c.before.if-sum-gt2147483647.false c.if-sum-ltminus2147483648.false)
     (λ c.
     let f = c.before.before in
-    to_z-of_z (fits_within _ c.before.if1.false c.if2.false)
-    ∙ within _ _ (sum_is f.args.a f.args.b f.ranges.a f.ranges.b) c.before.if1.false c.if2.false))
+    to_z-of_z (fits_within _ c.before.if-sum-gt2147483647.false c.if-sum-ltminus2147483648.false)
+    ∙ within _ _ (sum_is f.args.a f.args.b f.ranges.a f.ranges.b) c.before.if-sum-gt2147483647.false c.if-sum-ltminus2147483648.false))

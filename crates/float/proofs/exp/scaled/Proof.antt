@@ -22,14 +22,14 @@ module _ (w : ℕ) (z k : ℤ) (e : k ≡ z) where
 pub scaled_spec : {M : Type 1} → statement M
 scaled_spec =
     let met = tie.spec
-    (λ c. below c.before.args.x.0 _ _ (to_z-of_z c.before.ranges.exponent) c.if1.true)
-    (λ c. past c.before.before.args.x.0 _ _ (to_z-of_z c.before.before.ranges.exponent) c.before.if1.false c.if2.true)
+    (λ c. below c.before.args.x.0 _ _ (to_z-of_z c.before.ranges.exponent) c.if-exponent-ltminus127.true)
+    (λ c. past c.before.before.args.x.0 _ _ (to_z-of_z c.before.before.ranges.exponent) c.before.if-exponent-ltminus127.false c.if-exponent-gt128.true)
     (λ c κs. search rules)
     (λ c κs. search rules)
     (λ c κs. search rules)
     (λ c.
     let tested = c.before.before.before in
     c.of.ensures
-    ∙ ap (to_bits binary32) (c.before.value.ensures ∙ ap (of_bits binary32) c.before.before.set-exponent.ensures)
-    ∙ within tested.before.before.args.x.0 _ _ (to_z-of_z tested.before.before.ranges.exponent) tested.before.if1.false tested.if2.false) in
+    ∙ ap (to_bits binary32) (c.before.value.ensures ∙ ap (of_bits binary32) c.before.before.set_exponent.ensures)
+    ∙ within tested.before.before.args.x.0 _ _ (to_z-of_z tested.before.before.ranges.exponent) tested.before.if-exponent-ltminus127.false tested.if-exponent-gt128.false) in
     tie.close met

@@ -1,5 +1,5 @@
 -- `float::ln::logarithm` meets its contract: the mask leaves the exponent field, and the rest is a chain of calls. Assumes nothing.
-use Rattle.std.proofs.Common.{to_z-of_z, rules}
+use Rattle.std.proofs.Common.{to_z-of_z, w32, rules}
 use lib.Ieee.{binary32}
 use Rattle.format.proofs.Masks.{only_field}
 use Rattle.float.specs.Ln.{logarithm}
@@ -18,5 +18,5 @@ logarithm_spec =
     (λ c κs. search rules)
     (λ c.
     let first = c.before.before.before.before.before.before in
-    cc (to_z-of_z (record { sfits = first.extract-exponent-value.type-inv }), only_field binary32 first.before.args.x.0)) in
+    cc (to_z-of_z {w = w32} (record { sfits = first.extract_exponent_value.type_inv }), only_field binary32 first.before.args.x.0)) in
     tie.close met

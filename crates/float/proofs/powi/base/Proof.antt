@@ -8,6 +8,6 @@ base_spec =
     tie.close
     (tie.spec
     (λ c κs. search rules)
-    (λ c. simp (c.value.ensures, (rw (to_z-of_z c.before.before.ranges.n) at c.before.if1.true)))
+    (λ c. simp (c.value.ensures, (rw (to_z-of_z c.before.before.ranges.n) at c.before.if-n-lt0.true)))
     (λ c κs. search rules)
-    (λ c. simp (c.value2.ensures, (rw (to_z-of_z c.before.before.ranges.n) at c.before.if1.false))))
+    (λ c. simp (c.value-2.ensures, (rw (to_z-of_z c.before.before.ranges.n) at c.before.if-n-lt0.false))))

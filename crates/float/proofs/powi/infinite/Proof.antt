@@ -10,10 +10,10 @@ pub infinite_spec : {M : Type 1} → statement M
 infinite_spec =
     let met = tie.spec
     (λ c κs. search rules)
-    (λ c. simp (sym c.before.is-sign-positive.ensures ∙ c.if1.true))
+    (λ c. simp (sym c.before.is_sign_positive.ensures ∙ c.if-is_sign_positive.true))
     (λ c κs. search rules)
     (λ c.
-    simp (sym c.before.before.before.is-sign-positive.ensures ∙ c.before.before.if1.false, eq-eqb _ 0 (sym (bit_is c.before) ∙ c.if2.true)))
+    simp (sym c.before.before.before.is_sign_positive.ensures ∙ c.before.before.if-is_sign_positive.false, eq-eqb _ 0 (sym (bit_is c.before) ∙ c.if-magnitude-eq0.true)))
     (λ c.
-    simp (sym c.before.before.before.is-sign-positive.ensures ∙ c.before.before.if1.false, ne_eqb _ 0 (λ e. c.if2.false (bit_is c.before ∙ e)))) in
+    simp (sym c.before.before.before.is_sign_positive.ensures ∙ c.before.before.if-is_sign_positive.false, ne_eqb _ 0 (λ e. c.if-magnitude-eq0.false (bit_is c.before ∙ e)))) in
     tie.close met

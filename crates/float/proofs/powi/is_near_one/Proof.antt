@@ -5,8 +5,8 @@ use Rattle.format.specs.Sign.{abs_word}
 use Rattle.float.proofs.powi.is_near_one.Statement.{statement}
 use Rattle.float.proofs.powi.is_near_one.Tie as tie
 
-value_is : (c : tie.After-value) → c.value.result ≡ of_bits binary32 (abs_word binary32 c.before.before.args.x.0)
-value_is c = c.value.ensures ∙ ap (of_bits binary32) c.before.abs.ensures.0
+value_is : (c : tie.After-value-magnitude) → c.value-magnitude.result ≡ of_bits binary32 (abs_word binary32 c.before.before.args.x.0)
+value_is c = c.value-magnitude.ensures ∙ ap (of_bits binary32) c.before.abs.ensures.0
 
 pub is_near_one_spec : {M : Type 1} → statement M
 is_near_one_spec =
@@ -14,5 +14,5 @@ is_near_one_spec =
     (tie.spec
     (λ c κs. search rules)
     (λ c κs. search rules)
-    (λ c. simp (← value_is c.before, c.if1.true))
-    (λ c. simp (← value_is c.before, c.if1.false)))
+    (λ c. simp (← value_is c.before, c.if-magnitude.true))
+    (λ c. simp (← value_is c.before, c.if-magnitude.false)))

@@ -8,5 +8,5 @@ is_zero_and_stays_spec =
     tie.close
     (tie.spec
     (λ c κs. search rules)
-    (λ c. simp (sym c.before.is_zero.ensures ∙ c.if1.true, to_z-of_z c.before.before.ranges.n))
-    (λ c. simp (sym c.before.is_zero.ensures ∙ c.if1.false)))
+    (λ c. simp (sym c.before.is_zero.ensures ∙ c.if-is_zero.true, to_z-of_z c.before.before.ranges.n))
+    (λ c. simp (sym c.before.is_zero.ensures ∙ c.if-is_zero.false)))

@@ -11,15 +11,15 @@ high : (z : ℤ) → SFits w32 z → 2 ^ 31 ≤ of_z w32 z → 2 ^ 32 - 1 - of_z
 high (pos a) f h = absurd (let z : ⊥ = omega (arith, f.sfits) in z)
 high (negsuc a) f h = omega (arith, f.sfits)
 
-word_is : (c : tie.After-bits-of-i32) → c.bits-of-i32.result ≡ of_z w32 c.before.args.n
-word_is c = c.bits-of-i32.ensures ∙ ap (of_z w32) (to_z-of_z c.before.ranges.n)
+word_is : (c : tie.After-bits_of_i32-word) → c.bits_of_i32-word.result ≡ of_z w32 c.before.args.n
+word_is c = c.bits_of_i32-word.ensures ∙ ap (of_z w32) (to_z-of_z c.before.ranges.n)
 
 pub magnitude_spec : {M : Type 1} → statement M
 magnitude_spec =
     tie.close
     (tie.spec
     (λ c κs. search rules)
-    (λ c. rw (word_is c.before) (low _ c.before.before.ranges.n (rw (word_is c.before) at c.if1.true)))
+    (λ c. rw (word_is c.before) (low _ c.before.before.ranges.n (rw (word_is c.before) at c.if-word-lt2147483648.true)))
     (λ c. search rules)
     (λ c. search rules)
-    (λ c. rw (word_is c.before) (high _ c.before.before.ranges.n (rw (word_is c.before) at c.if1.false))))
+    (λ c. rw (word_is c.before) (high _ c.before.before.ranges.n (rw (word_is c.before) at c.if-word-lt2147483648.false))))

@@ -17,6 +17,6 @@ multiplied_spec =
     let n_is = to_z-of_z first.ranges.n in
     let from_is = ap from (c.before.before.before.base.ensures ∙ ap (λ (n : ℤ). (start first.args.x.0 n).base) n_is) in
     let m_is = c.before.before.magnitude.ensures ∙ ap nat_abs n_is in
-    let held = rw (from_is, m_is) at c.before.raised.ensures in
+    let held = rw (from_is, m_is) at c.before.raised-held.ensures in
     (c.of.ensures ∙ ap (λ (s : Work). to_bits binary32 s.result) held.0, held.1)) in
     tie.close met

@@ -14,10 +14,10 @@ record Left (m : ℕ) (s : Work) (p w : ℕ) (t : Work) : Type 0 where
   count : p + length (works 32 m s) ≡ length (works 32 w t)
   most : length (works 32 w t) ≤ 63
 
-abbrev invariant-loop : tie.invariant-loop
+abbrev invariant-loop : tie.invariant-loop-m
 invariant-loop base magnitude held₀ m₀ held m = Left m (work_of held) held.products magnitude (from base)
 
-abbrev decreases-loop : tie.decreases-loop
+abbrev decreases-loop : tie.decreases-loop-m
 decreases-loop base magnitude held₀ m₀ held m = m
 
 module _ (m : ℕ) (s : Work) (p w : ℕ) (t : Work) (l : Left m s p w t) where
@@ -49,15 +49,15 @@ raised_spec =
     invariant-loop
     decreases-loop
     (λ c. record { fits = c.ranges.magnitude.fits; end = refl; count = zero-add _; most = products_at_most 32 32 _ _ c.ranges.magnitude.fits })
-    (λ c κs. counted _ _ _ _ _ c.before.loop.invariant)
-    (λ c κs. bit_counted _ _ _ _ _ c.before.before.loop.invariant c.before.loop-test.true _ c.taken.ensures.1)
+    (λ c κs. counted _ _ _ _ _ c.before.loop-m.invariant)
+    (λ c κs. bit_counted _ _ _ _ _ c.before.before.loop-m.invariant c.before.loop-m-test.true _ c.taken.ensures.1)
     (λ c. omega arith)
     (λ c.
     let bit = c.before.taken.ensures in
-    again _ _ _ _ _ c.before.before.before.loop.invariant c.before.before.loop-test.true _ _ (c.squared.ensures.0 ∙ ap squared bit.0) (c.squared.ensures.1 ∙ ap (λ (n : ℕ). n + 1) bit.1))
-    (λ c κs. counted _ _ _ _ _ c.before.loop.invariant)
+    again _ _ _ _ _ c.before.before.before.loop-m.invariant c.before.before.loop-m-test.true _ _ (c.squared-held.ensures.0 ∙ ap squared bit.0) (c.squared-held.ensures.1 ∙ ap (λ (n : ℕ). n + 1) bit.1))
+    (λ c κs. counted _ _ _ _ _ c.before.loop-m.invariant)
     (λ c.
-    let bit = c.taken2.ensures in
-    let whole = last _ _ _ _ _ c.before.before.loop.invariant c.before.loop-test.false in
+    let bit = c.taken-2.ensures in
+    let whole = last _ _ _ _ _ c.before.before.loop-m.invariant c.before.loop-m-test.false in
     (bit.0 ∙ whole.0, bit.1 ∙ whole.1)) in
     tie.close met

@@ -8,5 +8,5 @@ taken_spec =
     tie.close
     (tie.spec
     (λ c. search rules)
-    (λ c. rw (eq-eqb _ 1 c.before.before.if1.true) (refl, refl))
-    (λ c. rw (ne_eqb _ 1 c.if1.false) (refl, sym (add-zero _))))
+    (λ c. rw (eq-eqb _ 1 c.before.before.if-m-eq1.true) (refl, refl))
+    (λ c. rw (ne_eqb _ 1 c.if-m-eq1.false) (refl, sym (add-zero _))))

@@ -3,4 +3,4 @@ use Rattle.float.proofs.recip.side.Statement.{statement}
 use Rattle.float.proofs.recip.side.Tie as tie
 
 pub side_spec : {M : Type 1} → statement M
-side_spec = tie.close (tie.spec (λ c. simp c.if1.true) (λ c. simp c.if1.false))
+side_spec = tie.close (tie.spec (λ c. simp c.if-x.true) (λ c. simp c.if-x.false))
