@@ -10,7 +10,7 @@ ghost use Rattle.double.specs.Guarded.{refusal_in, word_in, Answered, Gives, Gua
 use crate::{F64, gate, number, refusal};
 
 // What a guarded call gives: a number, or the number of the refusal.
-#[derive(Drop)]
+#[derive(Clone, Copy)]
 pub enum Double {
     Number(f64),
     Refused(u32),

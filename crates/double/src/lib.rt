@@ -1,6 +1,8 @@
 // The number type F64, which is its 64 bits, with its helpers. The raw kernels stand one to a file,
 // `guarded` has them behind the light gate, and `words` by number. They are Dampmeadow's own, after
 // those of micromath at 32 bits. `dampmeadow`, `doubles` and `probe` call it.
+#![tactic(auto)]
+
 ghost use Rattle.std.specs.Prelude.{◌≡◌, not, ◌-◌};
 ghost use Rattle.std.specs.Float.{binary64};
 ghost use Rattle.std.specs.Float.Ieee.{emax, of_bits, to_bits, nan_bits};
@@ -19,7 +21,7 @@ pub mod words;
 pub mod wrap;
 
 // A number by its bits. Every word is one, each NaN pattern too.
-#[derive(Drop)]
+#[derive(Clone, Copy)]
 pub struct F64(pub u64);
 
 impl F64 {

@@ -5,7 +5,7 @@ ghost use Rattle.double.specs.Words.{double_refusal, double_word};
 use crate::{F64, guarded, number};
 
 // The refusal, 0 where there is none, and the word, 0 beside a refusal.
-#[derive(Drop)]
+#[derive(Clone, Copy)]
 pub struct Reply {
     pub refusal: u32,
     pub word: u64,

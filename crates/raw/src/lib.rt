@@ -1,5 +1,7 @@
 // The raw kernels by the number of each in a frame, without the 80 that marks a raw one. `frame`
 // answers its raw frames by it, and `guard` states its laws over the list.
+#![tactic(auto)]
+
 ghost use Rattle.std.specs.Prelude.{◌≡◌};
 ghost use Rattle.raw.specs.Raw.{kernel_of, operands_of, raw_of};
 

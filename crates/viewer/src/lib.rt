@@ -1,9 +1,11 @@
 // The row on screen: columns of the scanned row or of the retouched one, lent back without a copy.
+#![tactic(auto)]
+
 ghost use Rattle.std.specs.Prelude.{◌≡◌, cond, length};
 ghost use Rattle.viewer.specs.View.{span_of, viewed, place_in};
 
 // Which row a part is of, and its columns: the first is in it and the last is not.
-#[derive(Drop)]
+#[derive(Clone, Copy)]
 pub struct Part {
     pub retouched: bool,
     pub from: usize,

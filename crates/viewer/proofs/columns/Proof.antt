@@ -10,18 +10,18 @@ use Rattle.viewer.proofs.Chosen.{Chosen, chosen}
 use Rattle.viewer.proofs.columns.Statement.{statement}
 use Rattle.viewer.proofs.columns.Tie as tie
 
-law : (c : tie.After-span) → let s = c.before.before.before.args in
-    Chosen s.scan.now s.retouch.now (viewed s.scan.now s.retouch.now s.retouched s.from s.to) c.span.result
+law : (c : tie.After-span-part) → let s = c.before.before.before.args in
+    Chosen s.scan.now s.retouch.now (viewed s.scan.now s.retouch.now s.retouched s.from s.to) c.span-part.result-1
 law c =
     let s = c.before.before.before.args in
-    subst (Chosen s.scan.now s.retouch.now (viewed s.scan.now s.retouch.now s.retouched s.from s.to)) (sym c.span.ensures) (chosen s.scan.now s.retouch.now s.retouched s.from s.to)
+    subst (Chosen s.scan.now s.retouch.now (viewed s.scan.now s.retouch.now s.retouched s.from s.to)) (sym c.span-part.ensures) (chosen s.scan.now s.retouch.now s.retouched s.from s.to)
 
 -- the end lies in the row that the flag names
-in_retouch : (c : tie.Then1) → c.before.span.result.to ≤ length c.before.before.before.before.args.retouch.now
-in_retouch c = rw c.if1.true at (law c.before).inside
+in_retouch : (c : tie.Then-part) → c.before.span-part.result-1.to ≤ length c.before.before.before.before.args.retouch.now
+in_retouch c = rw c.if-part.true at (law c.before).inside
 
-in_scan : (c : tie.Else1) → c.before.span.result.to ≤ length c.before.before.before.before.args.scan.now
-in_scan c = rw c.if1.false at (law c.before).inside
+in_scan : (c : tie.Else-part) → c.before.span-part.result-1.to ≤ length c.before.before.before.before.args.scan.now
+in_scan c = rw c.if-part.false at (law c.before).inside
 
 pub columns_spec : {M : Type 1} → statement M
 columns_spec =
@@ -33,12 +33,12 @@ columns_spec =
     (λ c. in_retouch c)
     (λ c.
     let s = c.before.before.before.before.before.args in
-    (rw c.before.if1.true at (law c.before.before).cut, sym (rw c.before.if1.true) ∙ ap (place_in s.scan s.retouch) c.before.before.span.ensures))
+    (rw c.before.if-part.true at (law c.before.before).cut, sym (rw c.before.if-part.true) ∙ ap (place_in s.scan s.retouch) c.before.before.span-part.ensures))
     (λ c. record { fits = omega (arith, (law c.before).ordered, in_scan c) })
     (λ c. (law c.before).ordered)
     (λ c. (law c.before).ordered)
     (λ c. in_scan c)
     (λ c.
     let s = c.before.before.before.before.before.args in
-    (rw c.before.if1.false at (law c.before.before).cut, sym (rw c.before.if1.false) ∙ ap (place_in s.scan s.retouch) c.before.before.span.ensures)) in
+    (rw c.before.if-part.false at (law c.before.before).cut, sym (rw c.before.if-part.false) ∙ ap (place_in s.scan s.retouch) c.before.before.span-part.ensures)) in
     tie.close met

@@ -6,5 +6,5 @@ use Rattle.double.proofs.F64.copysign.Tie as tie
 
 pub copysign_spec : {M : Type 1} → statement M
 copysign_spec =
-    let met = tie.spec (λ c. signed_like binary64 c.before.before.args.self.0 c.before.before.args.sign.0 c.struct-known2.given.0.fits) in
+    let met = tie.spec (λ c. signed_like binary64 c.before.before.args.self.0 c.before.before.args.sign.0 c.struct_known-2-1.given.0.fits) in
     tie.close met

@@ -8,7 +8,7 @@ use Rattle.double.proofs.F64.of.Tie as tie
 pub of_spec : {M : Type 1} → statement M
 of_spec =
     let met = tie.spec
-    (λ c. no_nan c.before.args.x c.if1.false)
-    (λ c. nan_told binary64 c.before.args.x c.if1.true)
+    (λ c. no_nan c.before.args.x c.if-x.false)
+    (λ c. nan_told binary64 c.before.args.x c.if-x.true)
     (λ c. search rules) in
     tie.close met

@@ -12,8 +12,8 @@ use Rattle.format.proofs.Sqrt.{sqrt_bound}
 use Rattle.double.proofs.F64.sqrt.Statement.{statement}
 use Rattle.double.proofs.F64.sqrt.Tie as tie
 
-passed : (c : tie.Then1) → at_least_zero binary64 c.before.before.args.self.0 ≡ true
-passed c = sym c.before.is-at-least-zero.ensures ∙ c.if1.true
+passed : (c : tie.Then-is_at_least_zero) → at_least_zero binary64 c.before.before.args.self.0 ≡ true
+passed c = sym c.before.is_at_least_zero.ensures ∙ c.if-is_at_least_zero.true
 
 pub sqrt_spec : {M : Type 1} → statement M
 sqrt_spec =
@@ -25,5 +25,5 @@ sqrt_spec =
     both (SqrtBound binary64 w) (halved binary64 w (omega arith) (passed c.before.before)) (sqrt_bound binary64 w))
     (λ c.
     let w = c.before.before.args.self.0 in
-    both (SqrtBound binary64 w) (simp (sym c.before.is-at-least-zero.ensures ∙ c.if1.false)) (sqrt_bound binary64 w)) in
+    both (SqrtBound binary64 w) (simp (sym c.before.is_at_least_zero.ensures ∙ c.if-is_at_least_zero.false)) (sqrt_bound binary64 w)) in
     tie.close met

@@ -13,7 +13,7 @@ use Rattle.double.proofs.F64.trunc.Statement.{statement}
 use Rattle.double.proofs.F64.trunc.Tie as tie
 
 below : (c : tie.After-shr) → c.shr.result ≡ below_point binary64 c.before.before.before.before.before.args.self.0
-below c = c.shr.ensures ∙ lowered binary64 c.before.before.before.before.before.args.self.0 _ _ c.before.before.exponent-clamped.ensures c.before.shl.ensures
+below c = c.shr.ensures ∙ lowered binary64 c.before.before.before.before.before.args.self.0 _ _ c.before.before.exponent_clamped-count.ensures c.before.shl-below.ensures
 
 pub trunc_spec : {M : Type 1} → statement M
 trunc_spec =
@@ -22,7 +22,7 @@ trunc_spec =
     (λ c κs. search rules)
     (λ c.
     let w = c.before.before.before.args.self.0 in
-    both (IsTrunc binary64 w) (c.copysign.ensures ∙ trunc_below_one binary64 w _ c.before.before.extract-exponent-bits.ensures c.before.if1.true) (trunc_under binary64 w (search rules)))
+    both (IsTrunc binary64 w) (c.copysign.ensures ∙ trunc_below_one binary64 w _ c.before.before.extract_exponent_bits.ensures c.before.if-extract_exponent_bits-lt-EXPONENT_BIAS.true) (trunc_under binary64 w (search rules)))
     (λ c κs. search rules)
     (λ c κs. search rules)
     (λ c κs. search rules)
@@ -30,5 +30,5 @@ trunc_spec =
     (λ c.
     let start = c.before.before.before.before in
     let w = start.before.before.args.self.0 in
-    both (IsTrunc binary64 w) (trunc_from_one binary64 w _ start.before.extract-exponent-bits.ensures start.if1.false _ (below c.before)) (trunc_under binary64 w c.struct_known.given.0.fits)) in
+    both (IsTrunc binary64 w) (trunc_from_one binary64 w _ start.before.extract_exponent_bits.ensures start.if-extract_exponent_bits-lt-EXPONENT_BIAS.false _ (below c.before)) (trunc_under binary64 w c.struct_known-1.given.0.fits)) in
     tie.close met

@@ -10,7 +10,7 @@ pub value_spec : {M : Type 1} → statement M
 value_spec =
     let met = tie.spec
     (λ c κs. search rules)
-    (λ c. not_held (sym c.before.before.is_nan.ensures ∙ c.before.if1.false))
-    (λ c. zero_over_zero binary64 ∙ sym (nan_read binary64 c.before.before.args.self.0 (sym c.before.is_nan.ensures ∙ c.if1.true)))
+    (λ c. not_held (sym c.before.before.is_nan.ensures ∙ c.before.if-is_nan.false))
+    (λ c. zero_over_zero binary64 ∙ sym (nan_read binary64 c.before.before.args.self.0 (sym c.before.is_nan.ensures ∙ c.if-is_nan.true)))
     (λ c. search rules) in
     tie.close met

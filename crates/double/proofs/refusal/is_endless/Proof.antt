@@ -5,5 +5,5 @@ use Rattle.double.proofs.refusal.is_endless.Tie as tie
 
 pub is_endless_spec : {M : Type 1} → statement M
 is_endless_spec =
-    let met = tie.spec (λ c κs. search rules) (λ c. rw c.extract-exponent-bits.ensures) in
+    let met = tie.spec (λ c κs. search rules) (λ c. rw c.extract_exponent_bits.ensures) in
     tie.close met

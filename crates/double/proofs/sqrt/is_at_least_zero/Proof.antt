@@ -11,6 +11,6 @@ use Rattle.double.proofs.sqrt.is_at_least_zero.Tie as tie
 pub is_at_least_zero_spec : {M : Type 1} → statement M
 is_at_least_zero_spec =
     let met = tie.spec
-    (λ c. sym (at_least_zero_is binary64 _ (omega arith) ∙ rw (le-leb _ 0x7ff0_0000_0000_0000 c.if1.true)))
-    (λ c. sym (at_least_zero_is binary64 _ (omega arith) ∙ rw (lt-leb _ 0x7ff0_0000_0000_0000 c.before.if1.false))) in
+    (λ c. sym (at_least_zero_is binary64 _ (omega arith) ∙ rw (le-leb _ 0x7ff0_0000_0000_0000 c.if-x.true)))
+    (λ c. sym (at_least_zero_is binary64 _ (omega arith) ∙ rw (lt-leb _ 0x7ff0_0000_0000_0000 c.before.if-x.false))) in
     tie.close met
