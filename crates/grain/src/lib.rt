@@ -1,5 +1,7 @@
 // Grain statistics: a running mean and the summed square deviation from it, kept in a record that one
 // offer after another changes, here by value. The exported call of `dampmeadow` changes it in place.
+#![tactic(auto)]
+
 ghost use Rattle.std.specs.Prelude.{◌≡◌, ◌+◌, ◌<◌};
 ghost use Rattle.grain.specs.Grain.{fresh, most_offers, most_samples, taken, turned_away, offered};
 
@@ -8,7 +10,7 @@ use float::{F32, cast};
 // How many samples were taken and how many refused, the mean of those taken, and the sum of their
 // squared deviations from it. Laid out as C lays it out.
 #[repr(C)]
-#[derive(Drop)]
+#[derive(Clone, Copy)]
 pub struct Grain {
     pub count: u32,
     pub refused: u32,
@@ -17,7 +19,7 @@ pub struct Grain {
 }
 
 // What an offer answers: the refusal, 0 where the sample is taken, and the record afterwards.
-#[derive(Drop)]
+#[derive(Clone, Copy)]
 pub struct Offered {
     pub refusal: u32,
     pub grain: Grain,

@@ -2,6 +2,8 @@
 // rounded once to the nearest word, and floor, cos, sin and the arctangent on them. No function here
 // has a float. The static library that is built from this crate is for a controller without floats;
 // `dampmeadow` exports the same calls.
+#![tactic(auto)]
+
 ghost use Rattle.std.specs.Prelude.{◌≡◌};
 ghost use Rattle.std.specs.Float.{binary32};
 ghost use Rattle.float.specs.Engine.{ieee};

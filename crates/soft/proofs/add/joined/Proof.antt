@@ -8,14 +8,14 @@ use Rattle.soft.proofs.Sums.{gap_le, up_small, near_sum, alone, far_sum}
 use Rattle.soft.proofs.add.joined.Statement.{statement}
 use Rattle.soft.proofs.add.joined.Tie as tie
 
-low : (e : tie.After-places2) → e.places2.result ≤ e.before.places.result
-low e = let s = e.before.before.before.before in gap_le s.args.a s.args.b _ _ _ _ e.before.before.before.digits.ensures e.before.before.digits2.ensures e.before.places.ensures e.places2.ensures s.requires
+low : (e : tie.After-places-low) → e.places-low.result ≤ e.before.places-high.result
+low e = let s = e.before.before.before.before in gap_le s.args.a s.args.b _ _ _ _ e.before.before.before.digits-more.ensures e.before.before.digits-less.ensures e.before.places-high.ensures e.places-low.ensures s.requires
 
-up : (c : tie.Else1) → c.before.before.before.before.digits.result * 2 ^ (c.before.before.places.result - c.before.places2.result) % 2 ^ 64 < 4611686018427387904
+up : (c : tie.Else-high-low-gt-FAR) → c.before.before.before.before.digits-more.result * 2 ^ (c.before.before.places-high.result - c.before.places-low.result) % 2 ^ 64 < 4611686018427387904
 up c =
     let e = c.before in
     let s = e.before.before.before.before in
-    up_small s.args.a s.args.b _ _ _ _ e.before.before.before.digits.ensures e.before.before.digits2.ensures e.before.places.ensures e.places2.ensures s.requires c.if1.false
+    up_small s.args.a s.args.b _ _ _ _ e.before.before.before.digits-more.ensures e.before.before.digits-less.ensures e.before.places-high.ensures e.places-low.ensures s.requires c.if-high-low-gt-FAR.false
 
 pub joined_spec : {M : Type 1} → statement M
 joined_spec =
@@ -26,29 +26,29 @@ joined_spec =
     (λ c κs. search rules)
     (λ c κs. search rules)
     (λ c. low c)
-    (λ c. let p = small_places _ _ c.before.before.places.ensures in record { fits = omega (arith, p) })
+    (λ c. let p = small_places _ _ c.before.before.places-high.ensures in record { fits = omega (arith, p) })
     (λ c κs.
-    let p = small_places _ _ c.before.before.places.ensures in
-    let x = small_digits _ _ c.before.before.before.before.digits.ensures in
+    let p = small_places _ _ c.before.before.places-high.ensures in
+    let x = small_digits _ _ c.before.before.before.before.digits-more.ensures in
     (omega (arith, x), omega arith, omega (arith, p)))
     (λ c.
     let e = c.before.before in
     let s = e.before.before.before.before in
     c.rounded.ensures
-    ∙ alone s.args.a s.args.b _ _ _ _ e.before.before.before.digits.ensures e.before.before.digits2.ensures e.before.places.ensures e.places2.ensures s.requires _
-    ∙ far_sum s.args.a s.args.b _ _ _ _ e.before.before.before.digits.ensures e.before.before.digits2.ensures e.before.places.ensures e.places2.ensures s.requires c.before.if1.true _)
+    ∙ alone s.args.a s.args.b _ _ _ _ e.before.before.before.digits-more.ensures e.before.before.digits-less.ensures e.before.places-high.ensures e.places-low.ensures s.requires _
+    ∙ far_sum s.args.a s.args.b _ _ _ _ e.before.before.before.digits-more.ensures e.before.before.digits-less.ensures e.before.places-high.ensures e.places-low.ensures s.requires c.before.if-high-low-gt-FAR.true _)
     (λ c. low c.before)
     (λ c. search rules)
     (λ c. search rules)
-    (λ c. let u = up c in let y = small_digits _ _ c.before.before.before.digits2.ensures in record { fits = omega (arith, u, y) })
-    (λ c. let q = small_places _ _ c.before.places2.ensures in record { fits = omega (arith, q) })
+    (λ c. let u = up c in let y = small_digits _ _ c.before.before.before.digits-less.ensures in record { fits = omega (arith, u, y) })
+    (λ c. let q = small_places _ _ c.before.places-low.ensures in record { fits = omega (arith, q) })
     (λ c κs.
     let u = up c in
-    let y = small_digits _ _ c.before.before.before.digits2.ensures in
-    let q = small_places _ _ c.before.places2.ensures in
+    let y = small_digits _ _ c.before.before.before.digits-less.ensures in
+    let q = small_places _ _ c.before.places-low.ensures in
     (omega (arith, u, y), omega arith, omega (arith, q)))
     (λ c.
     let e = c.before.before in
     let s = e.before.before.before.before in
-    c.rounded2.ensures ∙ near_sum s.args.a s.args.b _ _ _ _ e.before.before.before.digits.ensures e.before.before.digits2.ensures e.before.places.ensures e.places2.ensures s.requires c.before.if1.false _) in
+    c.rounded-2.ensures ∙ near_sum s.args.a s.args.b _ _ _ _ e.before.before.before.digits-more.ensures e.before.before.digits-less.ensures e.before.places-high.ensures e.places-low.ensures s.requires c.before.if-high-low-gt-FAR.false _) in
     tie.close met

@@ -24,35 +24,35 @@ sum_spec =
     (λ c.
     let d = c.before.before in
     let s = d.before.before.before in
-    sum_level binary32 s.args.a s.args.b s.requires.0 s.requires.1 (sym d.signs-differ.ensures ∙ c.before.if1.true) (sym d.before.before.without_sign.ensures ∙ c.if2.true ∙ d.before.without-sign2.ensures))
+    sum_level binary32 s.args.a s.args.b s.requires.0 s.requires.1 (sym d.signs_differ.ensures ∙ c.before.if-signs_differ.true) (sym d.before.before.without_sign-x.ensures ∙ c.if-x-y.true ∙ d.before.without_sign-y.ensures))
     (λ c κs. search rules)
     (λ c κs. search rules)
     (λ c.
     let t = c.before.before in
     let d = t.before.before.before in
     let s = d.before.before.before in
-    sum_less binary32 s.args.a s.args.b _ _ s.requires.0 s.requires.1 (sym d.signs-differ.ensures ∙ t.before.before.if1.true) (less _ _ _ _ d.before.before.without_sign.ensures d.before.without-sign2.ensures t.if3.true) c.parted.ensures c.before.is_sign_negative.ensures)
+    sum_less binary32 s.args.a s.args.b _ _ s.requires.0 s.requires.1 (sym d.signs_differ.ensures ∙ t.before.before.if-signs_differ.true) (less _ _ _ _ d.before.before.without_sign-x.ensures d.before.without_sign-y.ensures t.if-x-y-2.true) c.parted.ensures c.before.is_sign_negative.ensures)
     (λ c κs. search rules)
     (λ c κs. search rules)
     (λ c.
     let t = c.before.before in
     let d = t.before.before.before in
     let s = d.before.before.before in
-    sum_more binary32 s.args.a s.args.b _ _ s.requires.0 s.requires.1 (sym d.signs-differ.ensures ∙ t.before.before.if1.true)
-    (λ (e : magnitude binary32 s.args.a ≡ magnitude binary32 s.args.b). t.before.if2.false (d.before.before.without_sign.ensures ∙ e ∙ sym d.before.without-sign2.ensures))
-    (no_less _ _ _ _ d.before.before.without_sign.ensures d.before.without-sign2.ensures t.if3.false) c.parted2.ensures c.before.is-sign-negative2.ensures)
+    sum_more binary32 s.args.a s.args.b _ _ s.requires.0 s.requires.1 (sym d.signs_differ.ensures ∙ t.before.before.if-signs_differ.true)
+    (λ (e : magnitude binary32 s.args.a ≡ magnitude binary32 s.args.b). t.before.if-x-y.false (d.before.before.without_sign-x.ensures ∙ e ∙ sym d.before.without_sign-y.ensures))
+    (no_less _ _ _ _ d.before.before.without_sign-x.ensures d.before.without_sign-y.ensures t.if-x-y-2.false) c.parted-then-signs_differ.ensures c.before.is_sign_negative-then-signs_differ.ensures)
     (λ c κs. search rules)
     (λ c κs. search rules)
     (λ c.
     let t = c.before.before in
     let d = t.before.before in
     let s = d.before.before.before in
-    sum_like_turned binary32 s.args.a s.args.b _ _ s.requires.0 s.requires.1 (sym d.signs-differ.ensures ∙ t.before.if1.false) c.joined.ensures c.before.is-sign-negative3.ensures)
+    sum_like_turned binary32 s.args.a s.args.b _ _ s.requires.0 s.requires.1 (sym d.signs_differ.ensures ∙ t.before.if-signs_differ.false) c.joined.ensures c.before.is_sign_negative-then-x-y-3.ensures)
     (λ c κs. search rules)
     (λ c κs. search rules)
     (λ c.
     let t = c.before.before in
     let d = t.before.before in
     let s = d.before.before.before in
-    sum_like binary32 s.args.a s.args.b _ _ s.requires.0 s.requires.1 (sym d.signs-differ.ensures ∙ t.before.if1.false) c.joined2.ensures c.before.is-sign-negative4.ensures) in
+    sum_like binary32 s.args.a s.args.b _ _ s.requires.0 s.requires.1 (sym d.signs_differ.ensures ∙ t.before.if-signs_differ.false) c.joined-2.ensures c.before.is_sign_negative-2.ensures) in
     tie.close met

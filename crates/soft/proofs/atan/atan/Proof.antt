@@ -10,5 +10,5 @@ atan_spec =
     tie.spec
     (λ c κs. search rules)
     (λ c κs. search rules)
-    (λ c. let start = c.before.before in radian_steps start.args.w _ _ start.ranges.w.fits c.before.atan-norm.ensures.0 c.mul.ensures.0) in
+    (λ c. let start = c.before.before in radian_steps start.args.w _ _ start.ranges.w.fits c.before.atan_norm.ensures.0 c.mul.ensures.0) in
     tie.close met

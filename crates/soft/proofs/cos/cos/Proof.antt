@@ -41,15 +41,15 @@ cos_spec =
     let a1 = f.before in
     let m1 = a1.before in
     let start = m1.before in
-    let r = cos_steps start.args.w m1.mul.result a2.add2.result a1.add.result s1.sub.result w1.without_sign.result.0 w2.without-sign2.result.0 m3.mul3.result m5.mul5.result
+    let r = cos_steps start.args.w m1.mul-turns.result a2.add-2.result a1.add.result s1.sub-part.result w1.without_sign-distance.result.0 w2.without_sign-height.result.0 m3.mul-curve.result m5.mul-mended.result
     start.ranges.w.fits
-    m1.mul.ensures.0
-    (a2.add2.ensures.0 ∙ ap (add_word binary32 0x3e80_0000) f.floor.ensures)
+    m1.mul-turns.ensures.0
+    (a2.add-2.ensures.0 ∙ ap (add_word binary32 0x3e80_0000) f.floor-whole.ensures)
     a1.add.ensures.0
-    s1.sub.ensures.0
-    w1.without_sign.ensures
-    (m3.mul3.ensures.0 ∙ ap (mul_word binary32 s1.sub.result) (m2.mul2.ensures.0 ∙ ap (mul_word binary32 0x4180_0000) s2.sub2.ensures.0))
-    w2.without-sign2.ensures
-    (m5.mul5.ensures.0 ∙ ap (λ (z : ℕ). mul_word binary32 z s3.sub3.result) m4.mul4.ensures.0 ∙ ap (mul_word binary32 (mul_word binary32 0x3e66_6666 m3.mul3.result)) s3.sub3.ensures.0) in
-    (c.add3.ensures.0 ∙ r.0, c.add3.ensures.0 ∙ r.1)) in
+    s1.sub-part.ensures.0
+    w1.without_sign-distance.ensures
+    (m3.mul-curve.ensures.0 ∙ ap (mul_word binary32 s1.sub-part.result) (m2.mul.ensures.0 ∙ ap (mul_word binary32 0x4180_0000) s2.sub.ensures.0))
+    w2.without_sign-height.ensures
+    (m5.mul-mended.ensures.0 ∙ ap (λ (z : ℕ). mul_word binary32 z s3.sub-2.result) m4.mul-2.ensures.0 ∙ ap (mul_word binary32 (mul_word binary32 0x3e66_6666 m3.mul-curve.result)) s3.sub-2.ensures.0) in
+    (c.add-3.ensures.0 ∙ r.0, c.add-3.ensures.0 ∙ r.1)) in
     tie.close met

@@ -20,10 +20,10 @@ floor_spec =
     let l = c.before.before in
     let i = l.before in
     let n = i.before in
-    c.sub.ensures.0 ∙ floor_below n.before.args.w _ _ (i.from-integer.ensures ∙ ap (λ (z : ℤ). to_bits binary32 (of_int binary32 z)) (to_z-of_z (record { sfits = n.to-i32.type-inv }))) n.to-i32.ensures (sym l.is-less.ensures ∙ c.before.if1.true))
+    c.sub.ensures.0 ∙ floor_below n.before.args.w _ _ (i.from_integer-whole.ensures ∙ ap (λ (z : ℤ). to_bits binary32 (of_int binary32 z)) (to_z-of_z (record { sfits = n.to_i32.type_inv }))) n.to_i32.ensures (sym l.is_less.ensures ∙ c.before.if-is_less.true))
     (λ c.
     let l = c.before in
     let i = l.before in
     let n = i.before in
-    floor_whole n.before.args.w _ _ (i.from-integer.ensures ∙ ap (λ (z : ℤ). to_bits binary32 (of_int binary32 z)) (to_z-of_z (record { sfits = n.to-i32.type-inv }))) n.to-i32.ensures (sym l.is-less.ensures ∙ c.if1.false)) in
+    floor_whole n.before.args.w _ _ (i.from_integer-whole.ensures ∙ ap (λ (z : ℤ). to_bits binary32 (of_int binary32 z)) (to_z-of_z (record { sfits = n.to_i32.type_inv }))) n.to_i32.ensures (sym l.is_less.ensures ∙ c.if-is_less.false)) in
     tie.close met

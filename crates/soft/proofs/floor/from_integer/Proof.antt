@@ -8,8 +8,8 @@ use Rattle.soft.proofs.Less.{integer_plus, integer_minus}
 use Rattle.soft.proofs.floor.from_integer.Statement.{statement}
 use Rattle.soft.proofs.floor.from_integer.Tie as tie
 
-bits_are : (c : tie.After-bits-of-i32) → c.bits-of-i32.result ≡ of_z w32 c.before.args.n
-bits_are c = c.bits-of-i32.ensures ∙ ap (of_z w32) (to_z-of_z c.before.ranges.n)
+bits_are : (c : tie.After-bits_of_i32-bits) → c.bits_of_i32-bits.result ≡ of_z w32 c.before.args.n
+bits_are c = c.bits_of_i32-bits.ensures ∙ ap (of_z w32) (to_z-of_z c.before.ranges.n)
 
 pub from_integer_spec : {M : Type 1} → statement M
 from_integer_spec =
@@ -18,8 +18,8 @@ from_integer_spec =
     (λ c κs. search rules)
     (λ c. search rules)
     (λ c κs. search rules)
-    (λ c. let b = c.before.before in c.rounded.ensures ∙ integer_plus b.before.args.n _ b.before.ranges.n (bits_are b) c.before.if1.true)
+    (λ c. let b = c.before.before in c.rounded.ensures ∙ integer_plus b.before.args.n _ b.before.ranges.n (bits_are b) c.before.if-bits-lt2147483648.true)
     (λ c. search rules)
     (λ c κs. search rules)
-    (λ c. let b = c.before.before in c.rounded2.ensures ∙ integer_minus b.before.args.n _ b.before.ranges.n (bits_are b) c.before.if1.false) in
+    (λ c. let b = c.before.before in c.rounded-2.ensures ∙ integer_minus b.before.args.n _ b.before.ranges.n (bits_are b) c.before.if-bits-lt2147483648.false) in
     tie.close met

@@ -26,21 +26,21 @@ product_spec =
     tie.spec
     (λ c κs. search rules)
     (λ c κs. search rules)
-    (λ c. record { fits = lt_of_lt_of_le (digits_small _ _ _ _ c.before.digits.ensures c.digits2.ensures) (lit≤ tt) })
+    (λ c. record { fits = lt_of_lt_of_le (digits_small _ _ _ _ c.before.digits.ensures c.digits-2.ensures) (lit≤ tt) })
     (λ c κs. search rules)
     (λ c κs. search rules)
-    (λ c. record { fits = omega (arith, small_places _ _ c.before.places.ensures, small_places _ _ c.places2.ensures) })
+    (λ c. record { fits = omega (arith, small_places _ _ c.before.places.ensures, small_places _ _ c.places-2.ensures) })
     (λ c κs. search rules)
-    (λ c. record { fits = omega (arith, small_places _ _ c.before.before.places.ensures, small_places _ _ c.before.places2.ensures) })
+    (λ c. record { fits = omega (arith, small_places _ _ c.before.before.places.ensures, small_places _ _ c.before.places-2.ensures) })
     (λ c κs. (
-      lt_of_lt_of_le (digits_small _ _ _ _ c.before.before.before.before.digits.ensures c.before.before.before.digits2.ensures) (lit≤ tt),
-      omega (arith, small_places _ _ c.before.before.places.ensures, small_places _ _ c.before.places2.ensures),
-      omega (arith, small_places _ _ c.before.before.places.ensures, small_places _ _ c.before.places2.ensures),
+      lt_of_lt_of_le (digits_small _ _ _ _ c.before.before.before.before.digits.ensures c.before.before.before.digits-2.ensures) (lit≤ tt),
+      omega (arith, small_places _ _ c.before.before.places.ensures, small_places _ _ c.before.places-2.ensures),
+      omega (arith, small_places _ _ c.before.before.places.ensures, small_places _ _ c.before.places-2.ensures),
     ))
     (λ c.
     let b = c.before in
     let start = b.before.before.before.before.before in
     c.rounded.ensures
-    ∙ scaled_at _ start.args.a start.args.b _ _ _ _ b.before.before.before.before.digits.ensures b.before.before.before.digits2.ensures b.before.before.places.ensures b.before.places2.ensures
-    ∙ product_scaled start.args.a start.args.b _ b.signs-differ.ensures start.requires.0 start.requires.1) in
+    ∙ scaled_at _ start.args.a start.args.b _ _ _ _ b.before.before.before.before.digits.ensures b.before.before.before.digits-2.ensures b.before.before.places.ensures b.before.places-2.ensures
+    ∙ product_scaled start.args.a start.args.b _ b.signs_differ.ensures start.requires.0 start.requires.1) in
     tie.close met

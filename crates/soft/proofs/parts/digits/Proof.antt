@@ -18,12 +18,12 @@ digits_spec =
     tie.spec
     (λ c κs. search rules)
     (λ c. let w = c.before.before.args.w in record { fits = omega (arith, only_fraction binary32 w, fraction_lt binary32 w) })
-    (λ c. let w = c.before.before.args.w in only_fraction binary32 w ∙ sym (digits_low binary32 w (sym c.before.extract-exponent-bits.ensures ∙ c.if1.true)))
+    (λ c. let w = c.before.before.args.w in only_fraction binary32 w ∙ sym (digits_low binary32 w (sym c.before.extract_exponent_bits.ensures ∙ c.if-extract_exponent_bits-eq0.true)))
     (λ c. let w = c.before.before.args.w in record { fits = omega (arith, only_fraction binary32 w, fraction_lt binary32 w) })
     (λ c. let w = c.before.before.args.w in record { fits = omega (arith, only_fraction binary32 w, fraction_lt binary32 w) })
     (λ c.
     let w = c.before.before.args.w in
     ap (λ (z : ℕ). z + hid binary32) (only_fraction binary32 w)
     ∙ add_comm (fraction binary32 w) (hid binary32)
-    ∙ sym (digits_high binary32 w (λ e. c.if1.false (c.before.extract-exponent-bits.ensures ∙ e)))) in
+    ∙ sym (digits_high binary32 w (λ e. c.if-extract_exponent_bits-eq0.false (c.before.extract_exponent_bits.ensures ∙ e)))) in
     tie.close met

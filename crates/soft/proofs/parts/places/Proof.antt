@@ -11,7 +11,7 @@ places_spec =
     let met =
     tie.spec
     (λ c κs. search rules)
-    (λ c. places_field binary32 c.before.before.args.w 0 (sym c.if1.true ∙ c.before.extract-exponent-bits.ensures))
+    (λ c. places_field binary32 c.before.before.args.w 0 (sym c.if-field-eq0.true ∙ c.before.extract_exponent_bits-field.ensures))
     (λ c. search rules)
-    (λ c. places_field binary32 c.before.before.args.w _ c.before.extract-exponent-bits.ensures) in
+    (λ c. places_field binary32 c.before.before.args.w _ c.before.extract_exponent_bits-field.ensures) in
     tie.close met

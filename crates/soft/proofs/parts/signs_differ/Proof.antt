@@ -22,7 +22,7 @@ signs_differ_spec =
     tie.spec
     (λ c κs. search rules)
     (λ c κs. search rules)
-    (λ c. first _ _ _ (sym c.before.before.is_sign_negative.ensures ∙ c.before.if1.true) c.is-sign-positive.ensures)
+    (λ c. first _ _ _ (sym c.before.before.is_sign_negative.ensures ∙ c.before.if-is_sign_negative.true) c.is_sign_positive.ensures)
     (λ c κs. search rules)
-    (λ c. second _ _ _ (sym c.before.before.is_sign_negative.ensures ∙ c.before.if1.false) c.is-sign-negative2.ensures) in
+    (λ c. second _ _ _ (sym c.before.before.is_sign_negative.ensures ∙ c.before.if-is_sign_negative.false) c.is_sign_negative-2.ensures) in
     tie.close met

@@ -21,17 +21,17 @@ nearest_spec =
     let x = c.before.args.x in
     let n = c.before.args.count in
     let p = c.before.requires.1 in
-    sym (closest_low x (2 ^ n) (pow_pos n) (rw (rest_is x n p, unit_is x n p) at c.if1.true)))
+    sym (closest_low x (2 ^ n) (pow_pos n) (rw (rest_is x n p, unit_is x n p) at c.if-rest-other.true)))
     (λ c. record { fits = half_fits c.before.before.args.x c.before.before.args.count c.before.before.requires.0 c.before.before.ranges.x.fits })
     (λ c.
     let x = c.before.before.args.x in
     let n = c.before.before.args.count in
     let p = c.before.before.requires.1 in
-    sym (closest_high x (2 ^ n) (pow_pos n) (rw (rest_is x n p, unit_is x n p) at c.if2.true)))
+    sym (closest_high x (2 ^ n) (pow_pos n) (rw (rest_is x n p, unit_is x n p) at c.if-other-rest.true)))
     (λ c. let x = c.before.before.args.x in let n = c.before.before.args.count in record { fits = omega (arith, half_fits x n c.before.before.requires.0 c.before.before.ranges.x.fits) })
     (λ c.
     let x = c.before.before.args.x in
     let n = c.before.before.args.count in
     let p = c.before.before.requires.1 in
-    sym (closest_tie x (2 ^ n) (pow_pos n) (rw (rest_is x n p, unit_is x n p) at c.before.if1.false) (rw (rest_is x n p, unit_is x n p) at c.if2.false))) in
+    sym (closest_tie x (2 ^ n) (pow_pos n) (rw (rest_is x n p, unit_is x n p) at c.before.if-rest-other.false) (rw (rest_is x n p, unit_is x n p) at c.if-other-rest.false))) in
     tie.close met
