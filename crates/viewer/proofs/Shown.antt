@@ -84,7 +84,7 @@ abbrev pub scanned : Bor (List ℕ)
 scanned = record { ref_ptr = (7, 40); now = 10 ∷ 11 ∷ 12 ∷ [] }
 
 abbrev pub retouched : Bor (List ℕ)
-retouched = record { ref_ptr = (8, 80); ghost_name = 1; now = 20 ∷ 21 ∷ 22 ∷ 23 ∷ [] }
+retouched = record { ref_ptr = (8, 80); now = 20 ∷ 21 ∷ 22 ∷ 23 ∷ [] }
 
 -- the flag and the columns asked for
 abbrev pub asked : List (Bool × ℕ × ℕ)

@@ -11,16 +11,16 @@ use Rattle.viewer.proofs.columns.Statement.{statement}
 use Rattle.viewer.proofs.columns.Tie as tie
 
 law : (c : tie.After-span-part) → let s = c.before.before.before.args in
-    Chosen s.scan.now s.retouch.now (viewed s.scan.now s.retouch.now s.retouched s.from s.to) c.span-part.result-1
+    Chosen s.scan.now s.retouch.now (viewed s.scan.now s.retouch.now s.retouched s.from s.to) c.span-part.result
 law c =
     let s = c.before.before.before.args in
     subst (Chosen s.scan.now s.retouch.now (viewed s.scan.now s.retouch.now s.retouched s.from s.to)) (sym c.span-part.ensures) (chosen s.scan.now s.retouch.now s.retouched s.from s.to)
 
 -- the end lies in the row that the flag names
-in_retouch : (c : tie.Then-part) → c.before.span-part.result-1.to ≤ length c.before.before.before.before.args.retouch.now
+in_retouch : (c : tie.Then-part) → c.before.span-part.result.to ≤ length c.before.before.before.before.args.retouch.now
 in_retouch c = rw c.if-part.true at (law c.before).inside
 
-in_scan : (c : tie.Else-part) → c.before.span-part.result-1.to ≤ length c.before.before.before.before.args.scan.now
+in_scan : (c : tie.Else-part) → c.before.span-part.result.to ≤ length c.before.before.before.before.args.scan.now
 in_scan c = rw c.if-part.false at (law c.before).inside
 
 pub columns_spec : {M : Type 1} → statement M

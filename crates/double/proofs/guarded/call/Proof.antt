@@ -23,9 +23,9 @@ call_spec =
     (λ c κs. search rules)
     (λ c κs. search rules)
     (λ c κs. search rules)
-    (λ c. rw c.before.in_default.keys1 c.trunc.ensures.0)
-    (λ c. rw c.before.in_default.keys2 c.fract.ensures.0)
-    (λ c. rw c.before.in_default.keys3 c.sqrt.ensures.0)
-    (λ c. rw c.before.in_default.keys4 c.inv.ensures.0)
-    (λ c. missing c.before.args.op c.before.args.a (unlisted (0x01 ∷ 0x02 ∷ 0x09 ∷ 0x0b ∷ []) c.before.args.op c.in_default.rest)) in
+    (λ c. rw c.before.in-1.is c.trunc.ensures.0)
+    (λ c. rw c.before.in-2.is c.fract.ensures.0)
+    (λ c. rw c.before.in-9.is c.sqrt.ensures.0)
+    (λ c. rw c.before.in-11.is c.inv.ensures.0)
+    (λ c. missing c.before.args.op c.before.args.a (unlisted (0x01 ∷ 0x02 ∷ 0x09 ∷ 0x0b ∷ []) c.before.args.op c.in_default.in_default-own.rest)) in
     tie.close met

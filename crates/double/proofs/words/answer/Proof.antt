@@ -20,12 +20,12 @@ answer_spec =
     (λ c κs. search rules)
     (λ c κs. search rules)
     (λ c κs. search rules)
-    (λ c. let e = c.unrefused.ensures in (rw c.before.before.in_default.keys1 e.0, rw c.before.before.in_default.keys1 (e.1 ∙ c.before.trunc.ensures.0)))
-    (λ c. let e = c.unrefused-in-130.ensures in (rw c.before.before.in_default.keys2 e.0, rw c.before.before.in_default.keys2 (e.1 ∙ c.before.fract.ensures.0)))
-    (λ c. let e = c.unrefused-in-137.ensures in (rw c.before.before.in_default.keys3 e.0, rw c.before.before.in_default.keys3 (e.1 ∙ c.before.sqrt.ensures.0)))
-    (λ c. let e = c.unrefused-in-139.ensures in (rw c.before.before.in_default.keys4 e.0, rw c.before.before.in_default.keys4 (e.1 ∙ c.before.inv.ensures.0)))
+    (λ c. let e = c.unrefused.ensures in (rw c.before.before.in-129.is e.0, rw c.before.before.in-129.is (e.1 ∙ c.before.trunc.ensures.0)))
+    (λ c. let e = c.unrefused-in-130.ensures in (rw c.before.before.in-130.is e.0, rw c.before.before.in-130.is (e.1 ∙ c.before.fract.ensures.0)))
+    (λ c. let e = c.unrefused-in-137.ensures in (rw c.before.before.in-137.is e.0, rw c.before.before.in-137.is (e.1 ∙ c.before.sqrt.ensures.0)))
+    (λ c. let e = c.unrefused-in-139.ensures in (rw c.before.before.in-139.is e.0, rw c.before.before.in-139.is (e.1 ∙ c.before.inv.ensures.0)))
     (λ c.
-    let l = unlisted (0x81 ∷ 0x82 ∷ 0x89 ∷ 0x8b ∷ []) c.before.before.before.before.args.op c.before.before.before.in_default.rest in
+    let l = unlisted (0x81 ∷ 0x82 ∷ 0x89 ∷ 0x8b ∷ []) c.before.before.before.before.args.op c.before.before.before.in_default.in_default-own.rest in
     let g = c.before.before.call-answer.ensures in
     (rw l (c.before.refusal.ensures ∙ g.refusal), rw l (c.word.ensures ∙ g.word))) in
     tie.close met
