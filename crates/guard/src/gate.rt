@@ -11,7 +11,7 @@ use float::{F32, cos};
 // The lowest and the highest word that pass, both allowed, and a word that is judged the other way:
 // between them it does not pass, and elsewhere it does. Words are ordered as the numbers that they
 // are, -0 just below +0.
-#[derive(Drop)]
+#[derive(Clone, Copy)]
 pub struct Gate(pub u32, pub u32, pub u32);
 
 // A NaN, which refusal 1 has turned away before: no word is judged the other way.

@@ -1,5 +1,7 @@
 // The light gate: each kernel guarded, so that a call gives a number or one numbered refusal and
 // never both, exactly when the list of refusals says so. `frame` answers its guarded frames by it.
+#![tactic(auto)]
+
 ghost use Rattle.std.specs.Prelude.{◌≡◌, false};
 ghost use Rattle.std.specs.Float.{binary32};
 ghost use Rattle.std.specs.Float.Ieee.{nan_bits};
@@ -22,7 +24,7 @@ pub mod refusal;
 
 // What a guarded call gives: a number, two where trunc and fract come together, or the number of
 // the refusal.
-#[derive(Drop)]
+#[derive(Clone, Copy)]
 pub enum Guarded {
     Number(f32),
     Parts(f32, f32),
@@ -31,7 +33,7 @@ pub enum Guarded {
 
 // The answer that all guarded calls share: the result, and how many products powi formed for it. Of
 // every other call those are 0, and of every refusal.
-#[derive(Drop)]
+#[derive(Clone, Copy)]
 pub struct Answer {
     pub result: Guarded,
     pub products: u32,

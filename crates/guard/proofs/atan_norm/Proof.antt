@@ -16,5 +16,5 @@ atan_norm_spec =
     (λ c.
     let word = c.before.before.before.before.args.slope.0 in
     let judged = own_gate op_atan word 0 _ _ c.before.before.first.ensures c.before.before.before.of.ensures in
-    kept _ _ _ _ _ c.answered.ensures judged c.before.atan-norm.ensures (atan_norm_no_nan word)) in
+    kept _ _ _ _ _ c.answered.ensures judged c.before.atan_norm.ensures (atan_norm_no_nan word)) in
     tie.close met

@@ -9,6 +9,6 @@ counted_spec =
     tie.close
     (tie.spec
     (λ c κs. search rules)
-    (λ c h. rw c.value.ensures (numbered _ _ (search rules) c.before.if1.true (h c.before.if1.true)))
+    (λ c h. rw c.value.ensures (numbered _ _ (search rules) c.before.if-refusal-eq0.true (h c.before.if-refusal-eq0.true)))
     (λ c κs. search rules)
-    (λ c h. rw c.refused.ensures (refused _ _ c.before.if1.false)))
+    (λ c h. rw c.refused.ensures (refused _ _ c.before.if-refusal-eq0.false)))

@@ -16,14 +16,14 @@ use Rattle.guard.proofs.Meaning.{inv_bounded, inv_turns}
 use Rattle.guard.proofs.inv.Statement.{statement}
 use Rattle.guard.proofs.inv.Tie as tie
 
-abbrev operand : tie.After-first → ℕ
+abbrev operand : tie.After-first-refusal → ℕ
 operand c = c.before.before.args.x.0
 
 -- either way out of the call meets the contract
-met_by : (c : tie.After-first) (w : ℕ) (r : Answer) → w ≡ value_of op_inv (operand c) 0 → Promise c.first.result w r
+met_by : (c : tie.After-first-refusal) (w : ℕ) (r : Answer) → w ≡ value_of op_inv (operand c) 0 → Promise c.first-refusal.result w r
     → Guards op_inv (operand c) 0 r × ((Answered r → InvBound binary32 (operand c) (word_of r)) × TurnsSign op_inv (operand c) r)
 met_by c w r q f =
-    let g = guards op_inv (operand c) 0 _ w _ r (search rules) (search rules) c.before.of.ensures c.first.ensures q f in
+    let g = guards op_inv (operand c) 0 _ w _ r (search rules) (search rules) c.before.of.ensures c.first-refusal.ensures q f in
     (g, (inv_bounded (operand c) 0 r (search rules) g, inv_turns (operand c) r (search rules) g))
 
 is_number : (c : tie.After-inv) → nan_bits binary32 c.inv.result.0 ≡ false
@@ -31,7 +31,7 @@ is_number c =
     let tested = c.before in
     let first = tested.before in
     rw c.inv.ensures.0
-    (no_nan op_inv (operand first) 0 (search rules) (search rules) (sym (own_gate op_inv (operand first) 0 _ _ first.first.ensures first.before.of.ensures) ∙ tested.if1.false))
+    (no_nan op_inv (operand first) 0 (search rules) (search rules) (sym (own_gate op_inv (operand first) 0 _ _ first.first-refusal.ensures first.before.of.ensures) ∙ tested.if-refusal-ne0.false))
 
 pub inv_spec : {M : Type 1} → statement M
 inv_spec =
@@ -39,10 +39,10 @@ inv_spec =
     (λ c κs. search rules)
     (λ c κs. search rules)
     (λ c κs. search rules)
-    (λ c. rw c.refused.ensures (met_by c.before.before _ _ refl (λ h. refused _ _ c.before.if1.true)))
+    (λ c. rw c.refused.ensures (met_by c.before.before _ _ refl (λ h. refused _ _ c.before.if-refusal-ne0.true)))
     (λ c κs. search rules)
     (λ c. subst (λ (b : Bool). T (not b)) (sym (is_number c.before)) tt)
     (λ c.
     let tested = c.before.before in
-    met_by tested.before _ _ c.before.inv.ensures.0 (λ h. numbered _ _ (search rules) tested.if1.false (h tested.if1.false))) in
+    met_by tested.before _ _ c.before.inv.ensures.0 (λ h. numbered _ _ (search rules) tested.if-refusal-ne0.false (h tested.if-refusal-ne0.false))) in
     tie.close met

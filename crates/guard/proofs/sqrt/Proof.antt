@@ -16,16 +16,16 @@ use Rattle.guard.proofs.sqrt.Tie as tie
 of_zero : (c : tie.After-answered) → let args = c.before.before.before.args in Guards op_sqrt args.x.0 0 c.answered.result
 of_zero c =
     let a = c.before.before.before.args.x.0 in
-    let z = sym c.before.before.is_zero.ensures ∙ c.before.if1.true in
+    let z = sym c.before.before.is_zero.ensures ∙ c.before.if-is_zero.true in
     kept 0 a _ _ _ c.answered.ensures (sym (zero_passes a 0 z)) (rw z) (no_nan op_sqrt a 0 (search rules) (search rules))
 
-gate : (c : tie.After-answered2) → let args = c.before.before.before.before.before.before.args in Guards op_sqrt args.x.0 0 c.answered2.result
+gate : (c : tie.After-answered-2) → let args = c.before.before.before.before.before.before.args in Guards op_sqrt args.x.0 0 c.answered-2.result
 gate c =
     let start = c.before.before.before.before in
     let a = start.before.before.args.x.0 in
-    let z : is_zero binary32 a ≡ false = sym start.before.is_zero.ensures ∙ start.if1.false in
+    let z : is_zero binary32 a ≡ false = sym start.before.is_zero.ensures ∙ start.if-is_zero.false in
     guards op_sqrt a 0 _ _ _ _ (search rules) (search rules)
-    c.before.before.before.of.ensures c.before.before.first.ensures (c.before.sqrt.ensures.0 ∙ rw z) c.answered2.ensures
+    c.before.before.before.of.ensures c.before.before.first.ensures (c.before.sqrt.ensures.0 ∙ rw z) c.answered-2.ensures
 
 pub sqrt_spec : {M : Type 1} → statement M
 sqrt_spec =
@@ -42,4 +42,4 @@ sqrt_spec =
     (λ c κs. search rules)
     (λ c.
     let word = c.before.before.before.before.before.before.args.x.0 in
-    (gate c, sqrt_bounded word 0 c.answered2.result (gate c))))
+    (gate c, sqrt_bounded word 0 c.answered-2.result (gate c))))

@@ -14,5 +14,5 @@ second_word_spec =
     (λ c κs. search rules)
     (λ c. search rules)
     (λ c. search rules)
-    (λ c. c.of.ensures ∙ sym (ap second_in c.before.before.result.given.1))
+    (λ c. c.of.ensures ∙ sym (ap second_in c.before.in-Parts.is))
     (λ c. search rules))

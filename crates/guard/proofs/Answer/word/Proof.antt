@@ -14,6 +14,6 @@ word_spec =
     (λ c. search rules)
     (λ c κs. search rules)
     (λ c. search rules)
-    (λ c. c.of.ensures ∙ sym (ap word_in c.before.before.result.given.1))
-    (λ c. c.of2.ensures ∙ sym (ap word_in c.before.before.result2.given.1))
+    (λ c. c.of.ensures ∙ sym (ap word_in c.before.in-Number.is))
+    (λ c. c.of-in-Parts.ensures ∙ sym (ap word_in c.before.in-Parts.is))
     (λ c. search rules))

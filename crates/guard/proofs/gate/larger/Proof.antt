@@ -10,5 +10,5 @@ larger_spec =
     (tie.spec
     (λ c κs. search rules)
     (λ c κs. search rules)
-    (λ c. simp (← c.before.before.abs.ensures.0, ← c.before.abs2.ensures.0, le-leb _ _ c.if1.true))
-    (λ c. simp (← c.before.before.abs.ensures.0, ← c.before.abs2.ensures.0, lt-leb _ _ c.if1.false)))
+    (λ c. simp (← c.before.before.abs-x.ensures.0, ← c.before.abs-y.ensures.0, le-leb _ _ c.if-x-y.true))
+    (λ c. simp (← c.before.before.abs-x.ensures.0, ← c.before.abs-y.ensures.0, lt-leb _ _ c.if-x-y.false)))

@@ -13,5 +13,5 @@ of_spec =
     (tie.spec
     (λ c. search rules)
     (λ c. search rules)
-    (λ c. same_row gates _ unbounded c.before.before.args.op c.before.if1.true)
-    (λ c. sym (get_or-eq_default gates unbounded c.if1.false)))
+    (λ c. same_row gates _ unbounded c.before.before.args.op c.before.if-op-lt27.true)
+    (λ c. sym (get_or-eq_default gates unbounded c.if-op-lt27.false)))

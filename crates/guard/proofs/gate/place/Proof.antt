@@ -9,6 +9,6 @@ place_spec =
     tie.close
     (tie.spec
     (λ c. search rules)
-    (λ c. simp (lt-leb _ _ c.if1.true))
+    (λ c. simp (lt-leb _ _ c.if-w-lt-SIGN_MASK.true))
     (λ c. search rules)
-    (λ c. simp (le-leb _ _ c.if1.false)))
+    (λ c. simp (le-leb _ _ c.if-w-lt-SIGN_MASK.false)))

@@ -8,7 +8,7 @@ pub unless_zero_spec : {M : Type 1} → statement M
 unless_zero_spec =
     let met = tie.spec
     (λ c κs. search rules)
-    (λ c. rw (sym c.before.is_zero.ensures ∙ c.if1.true))
+    (λ c. rw (sym c.before.is_zero.ensures ∙ c.if-is_zero.true))
     (λ c κs. search rules)
-    (λ c. rw (sym c.before.before.is_zero.ensures ∙ c.before.if1.false) c.abs.ensures.0) in
+    (λ c. rw (sym c.before.before.is_zero.ensures ∙ c.before.if-is_zero.false) c.abs.ensures.0) in
     tie.close met

@@ -15,64 +15,64 @@ use Rattle.guard.proofs.refusal.first.Tie as tie
 abbrev Left : ℕ → tie.Start → Type 0
 Left k start = let s = start.args in refusal_behind s.gate s.op s.a.0 s.b ≡ first_of (drop k (refusals s.gate)) s.op s.a.0 s.b
 
-abbrev at_1 : tie.Else1 → tie.Start
+abbrev at_1 : tie.Else-is_endless → tie.Start
 at_1 c = c.before.before
 
-abbrev at_2 : tie.Else2 → tie.Start
+abbrev at_2 : tie.Else-is_second_refused → tie.Start
 at_2 c = at_1 c.before.before
 
-abbrev at_3 : tie.Else3 → tie.Start
+abbrev at_3 : tie.Else-is_zero_refused → tie.Start
 at_3 c = at_2 c.before.before
 
-abbrev at_4 : tie.Else4 → tie.Start
+abbrev at_4 : tie.Else-is_small_refused → tie.Start
 at_4 c = at_3 c.before.before
 
-abbrev at_5 : tie.Else5 → tie.Start
+abbrev at_5 : tie.Else-is_sign_refused → tie.Start
 at_5 c = at_4 c.before.before
 
-abbrev at_6 : tie.Else6 → tie.Start
+abbrev at_6 : tie.Else-not-passes → tie.Start
 at_6 c = at_5 c.before.before.before
 
-past_1 : (c : tie.Else1) → Left 1 (at_1 c)
+past_1 : (c : tie.Else-is_endless) → Left 1 (at_1 c)
 unfolding refusal_behind
-past_1 c = rw (sym c.before.is-endless.ensures ∙ c.if1.false)
+past_1 c = rw (sym c.before.is_endless.ensures ∙ c.if-is_endless.false)
 
-past_2 : (c : tie.Else2) → Left 2 (at_2 c)
-past_2 c = past_1 c.before.before ∙ rw (sym c.before.is-second-refused.ensures ∙ c.if2.false)
+past_2 : (c : tie.Else-is_second_refused) → Left 2 (at_2 c)
+past_2 c = past_1 c.before.before ∙ rw (sym c.before.is_second_refused.ensures ∙ c.if-is_second_refused.false)
 
-past_3 : (c : tie.Else3) → Left 3 (at_3 c)
-past_3 c = past_2 c.before.before ∙ rw (sym c.before.is-zero-refused.ensures ∙ c.if3.false)
+past_3 : (c : tie.Else-is_zero_refused) → Left 3 (at_3 c)
+past_3 c = past_2 c.before.before ∙ rw (sym c.before.is_zero_refused.ensures ∙ c.if-is_zero_refused.false)
 
-past_4 : (c : tie.Else4) → Left 4 (at_4 c)
-past_4 c = past_3 c.before.before ∙ rw (sym c.before.is-small-refused.ensures ∙ c.if4.false)
+past_4 : (c : tie.Else-is_small_refused) → Left 4 (at_4 c)
+past_4 c = past_3 c.before.before ∙ rw (sym c.before.is_small_refused.ensures ∙ c.if-is_small_refused.false)
 
-past_5 : (c : tie.Else5) → Left 5 (at_5 c)
-past_5 c = past_4 c.before.before ∙ rw (sym c.before.is-sign-refused.ensures ∙ c.if5.false)
+past_5 : (c : tie.Else-is_sign_refused) → Left 5 (at_5 c)
+past_5 c = past_4 c.before.before ∙ rw (sym c.before.is_sign_refused.ensures ∙ c.if-is_sign_refused.false)
 
 gate_is : (c : tie.After-passes) → let s = (at_5 c.before.before).args in passes s.gate (judged s.op s.a.0 s.b) ≡ c.passes.result
 gate_is c = sym (c.passes.ensures ∙ rw c.before.judged.ensures)
 
-past_6 : (c : tie.Else6) → Left 6 (at_6 c)
-past_6 c = past_5 c.before.before.before ∙ rw (gate_is c.before, not-false c.before.passes.result c.if6.false)
+past_6 : (c : tie.Else-not-passes) → Left 6 (at_6 c)
+past_6 c = past_5 c.before.before.before ∙ rw (gate_is c.before, not-false c.before.passes.result c.if-not-passes.false)
 
 pub first_spec : {M : Type 1} → statement M
 unfolding refusal_behind
 first_spec =
     let met = tie.spec
     (λ c κs. search rules)
-    (λ c. rw (sym c.before.is-endless.ensures ∙ c.if1.true))
+    (λ c. rw (sym c.before.is_endless.ensures ∙ c.if-is_endless.true))
     (λ c κs. search rules)
-    (λ c. sym (past_1 c.before.before ∙ rw (sym c.before.is-second-refused.ensures ∙ c.if2.true)))
+    (λ c. sym (past_1 c.before.before ∙ rw (sym c.before.is_second_refused.ensures ∙ c.if-is_second_refused.true)))
     (λ c κs. search rules)
-    (λ c. sym (past_2 c.before.before ∙ rw (sym c.before.is-zero-refused.ensures ∙ c.if3.true)))
+    (λ c. sym (past_2 c.before.before ∙ rw (sym c.before.is_zero_refused.ensures ∙ c.if-is_zero_refused.true)))
     (λ c κs. search rules)
-    (λ c. sym (past_3 c.before.before ∙ rw (sym c.before.is-small-refused.ensures ∙ c.if4.true)))
+    (λ c. sym (past_3 c.before.before ∙ rw (sym c.before.is_small_refused.ensures ∙ c.if-is_small_refused.true)))
     (λ c κs. search rules)
-    (λ c. sym (past_4 c.before.before ∙ rw (sym c.before.is-sign-refused.ensures ∙ c.if5.true)))
+    (λ c. sym (past_4 c.before.before ∙ rw (sym c.before.is_sign_refused.ensures ∙ c.if-is_sign_refused.true)))
     (λ c κs. search rules)
     (λ c κs. search rules)
-    (λ c. sym (past_5 c.before.before.before ∙ rw (gate_is c.before, not-true c.before.passes.result c.if6.true)))
+    (λ c. sym (past_5 c.before.before.before ∙ rw (gate_is c.before, not-true c.before.passes.result c.if-not-passes.true)))
     (λ c κs. search rules)
-    (λ c. sym (past_6 c.before.before ∙ rw (sym c.before.is-power-refused.ensures ∙ c.if7.true)))
-    (λ c. sym (past_6 c.before.before ∙ rw (sym c.before.is-power-refused.ensures ∙ c.if7.false))) in
+    (λ c. sym (past_6 c.before.before ∙ rw (sym c.before.is_power_refused.ensures ∙ c.if-is_power_refused.true)))
+    (λ c. sym (past_6 c.before.before ∙ rw (sym c.before.is_power_refused.ensures ∙ c.if-is_power_refused.false))) in
     tie.close met

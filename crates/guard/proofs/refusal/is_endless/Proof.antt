@@ -4,4 +4,4 @@ use Rattle.guard.proofs.refusal.is_endless.Statement.{statement}
 use Rattle.guard.proofs.refusal.is_endless.Tie as tie
 
 pub is_endless_spec : {M : Type 1} → statement M
-is_endless_spec = tie.close (tie.spec (λ c κs. search rules) (λ c. rw c.extract-exponent-bits.ensures))
+is_endless_spec = tie.close (tie.spec (λ c κs. search rules) (λ c. rw c.extract_exponent_bits.ensures))

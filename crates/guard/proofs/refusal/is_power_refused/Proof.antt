@@ -25,5 +25,5 @@ is_power_refused_spec =
     (tie.spec
     (λ c κs. search rules)
     (λ c. search rules)
-    (λ c. rw c.before.if1.true (rw c.sum.ensures (at _ c.before.before.ranges.n.fits)))
-    (λ c. rw (ne_eqb _ 15 c.if1.false)))
+    (λ c. rw c.before.if-op-eq-POWI.true (rw c.sum.ensures (at _ c.before.before.ranges.n.fits)))
+    (λ c. rw (ne_eqb _ 15 c.if-op-eq-POWI.false)))

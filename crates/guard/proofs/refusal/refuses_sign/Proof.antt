@@ -9,8 +9,8 @@ pub refuses_sign_spec : {M : Type 1} → statement M
 refuses_sign_spec =
     tie.close
     (tie.spec
-    (λ c. rw c.match.keys1)
-    (λ c. rw c.match.keys2)
-    (λ c. rw c.match.keys3)
-    (λ c. rw c.match.keys4)
-    (λ c. sym (unlisted (9 ∷ 10 ∷ 14 ∷ 16 ∷ []) _ c.match.rest)))
+    (λ c. rw c.in-9.is)
+    (λ c. rw c.in-10.is)
+    (λ c. rw c.in-14.is)
+    (λ c. rw c.in-16.is)
+    (λ c. sym (unlisted (9 ∷ 10 ∷ 14 ∷ 16 ∷ []) _ c.in_default.in_default-own.rest)))

@@ -9,10 +9,10 @@ pub refuses_zero_spec : {M : Type 1} → statement M
 refuses_zero_spec =
     tie.close
     (tie.spec
-    (λ c. rw c.match.keys1)
-    (λ c. rw c.match.keys2)
-    (λ c. rw c.match.keys3)
-    (λ c. rw c.match.keys4)
-    (λ c. rw c.match.keys5)
-    (λ c. rw c.match.keys6)
-    (λ c. sym (unlisted (10 ∷ 11 ∷ 12 ∷ 14 ∷ 15 ∷ 16 ∷ []) _ c.match.rest)))
+    (λ c. rw c.in-10.is)
+    (λ c. rw c.in-11.is)
+    (λ c. rw c.in-12.is)
+    (λ c. rw c.in-14.is)
+    (λ c. rw c.in-15.is)
+    (λ c. rw c.in-16.is)
+    (λ c. sym (unlisted (10 ∷ 11 ∷ 12 ∷ 14 ∷ 15 ∷ 16 ∷ []) _ c.in_default.in_default-own.rest)))

@@ -24,12 +24,12 @@ answered d r e =
     let w1 = m2.before in
     let m1 = w1.before in
     let start = m1.before in
-    atan_steps start.args.w w1.without_sign-bent.result.0 m2.mul-2.result a1.add-n.result a2.add-n.result d.div-quotient.result r
+    atan_steps start.args.w w1.without_sign-bent.result.0 m2.mul-2.result a1.add-n.result a2.add.result d.div-quotient.result r
     start.ranges.w.fits
     (w1.without_sign-bent.ensures ∙ ap (abs_word binary32) m1.mul.ensures.0)
     m2.mul-2.ensures.0
     a1.add-n.ensures.0
-    a2.add-n.ensures.0
+    a2.add.ensures.0
     (d.div-quotient.ensures.0 ∙ ap (div_word binary32 a1.add-n.result) a3.add-2.ensures.0)
     e
 

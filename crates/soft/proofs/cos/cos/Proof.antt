@@ -48,7 +48,7 @@ cos_spec =
     a1.add.ensures.0
     s1.sub-part.ensures.0
     w1.without_sign-distance.ensures
-    (m3.mul-curve.ensures.0 ∙ ap (mul_word binary32 s1.sub-part.result) (m2.mul-turns.ensures.0 ∙ ap (mul_word binary32 0x4180_0000) s2.sub-part.ensures.0))
+    (m3.mul-curve.ensures.0 ∙ ap (mul_word binary32 s1.sub-part.result) (m2.mul.ensures.0 ∙ ap (mul_word binary32 0x4180_0000) s2.sub.ensures.0))
     w2.without_sign-height.ensures
     (m5.mul-mended.ensures.0 ∙ ap (λ (z : ℕ). mul_word binary32 z s3.sub-2.result) m4.mul-2.ensures.0 ∙ ap (mul_word binary32 (mul_word binary32 0x3e66_6666 m3.mul-curve.result)) s3.sub-2.ensures.0) in
     (c.add-3.ensures.0 ∙ r.0, c.add-3.ensures.0 ∙ r.1)) in
