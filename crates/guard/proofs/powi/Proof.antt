@@ -22,10 +22,10 @@ powi_spec =
     (λ c κs. search rules)
     (λ c κs. search rules)
     (λ c.
-    let bits = c.before.before.before in
-    let counted = c.before.powi_counted-power.ensures in
+    let bits = c.before.before.before.before in
+    let counted = c.before.before.powi_counted-power.ensures in
     let args = bits.before.before.args in
     let power = word_is bits in
     guards_after op_powi args.x.0 (of_z w32 args.n) _ _ _ _ (search rules) (subst (λ (w : ℕ). w < 2 ^ 32) power (search rules))
-    bits.before.of.ensures (c.before.before.first-refusal.ensures ∙ rw power) counted.0 _ (rw counted.1 at c.counted.ensures)) in
+    bits.before.of.ensures (c.before.before.before.first-refusal.ensures ∙ rw power) counted.0 _ (rw counted.1 at c.counted.ensures)) in
     tie.close met

@@ -53,7 +53,7 @@ gate_is : (c : tie.After-passes) → let s = (at_5 c.before.before).args in pass
 gate_is c = sym (c.passes.ensures ∙ rw c.before.judged.ensures)
 
 past_6 : (c : tie.Else-not-passes) → Left 6 (at_6 c)
-past_6 c = past_5 c.before.before.before ∙ rw (gate_is c.before, not-false c.before.passes.result c.if-not-passes.false)
+past_6 c = past_5 c.before.before.before ∙ rw (gate_is c.before, c.if-not-passes.false)
 
 pub first_spec : {M : Type 1} → statement M
 unfolding refusal_behind
@@ -71,7 +71,7 @@ first_spec =
     (λ c. sym (past_4 c.before.before ∙ rw (sym c.before.is_sign_refused.ensures ∙ c.if-is_sign_refused.true)))
     (λ c κs. search rules)
     (λ c κs. search rules)
-    (λ c. sym (past_5 c.before.before.before ∙ rw (gate_is c.before, not-true c.before.passes.result c.if-not-passes.true)))
+    (λ c. sym (past_5 c.before.before.before ∙ rw (gate_is c.before, c.if-not-passes.true)))
     (λ c κs. search rules)
     (λ c. sym (past_6 c.before.before ∙ rw (sym c.before.is_power_refused.ensures ∙ c.if-is_power_refused.true)))
     (λ c. sym (past_6 c.before.before ∙ rw (sym c.before.is_power_refused.ensures ∙ c.if-is_power_refused.false))) in
