@@ -1,5 +1,7 @@
 // A frame on the bench: a line of text and the eleven bytes that answer it. `lines` and the exported
 // calls of `dampmeadow` stand on it.
+#![tactic(auto)]
+
 ghost use Rattle.std.specs.Prelude.{◌≡◌, true, ℕ, ◌+◌, ◌*◌, ◌-◌, ◌/◌, ◌%◌, ◌^◌, ◌≤◌, ◌<◌, length, get_or};
 ghost use Rattle.frame.specs.Frame.{is_digit, digit_of, digit_or16, byte_of, is_frame, number_at, line_words, words_bytes, returned_for, left_with, returned, left};
 

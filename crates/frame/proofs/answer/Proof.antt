@@ -12,5 +12,5 @@ answer_spec =
     (λ c κs. search rules)
     (λ c κs. search rules)
     (λ c. search rules)
-    (λ c. let w = c.before.before in let e = w.before.before.of-line.ensures in (w.write.ensures.0 ∙ rw e, w.write.ensures.1 ∙ rw e)) in
+    (λ c. let w = c.before.before in let e = w.before.before.of_line.ensures in (w.write.ensures.0 ∙ rw e, w.write.ensures.1 ∙ rw e)) in
     tie.close met

@@ -7,4 +7,4 @@ use Rattle.frame.proofs.byte_of.Tie as tie
 pub byte_of_spec : {M : Type 1} → statement M
 byte_of_spec =
     tie.close
-    (tie.spec (λ c. search rules) (λ c. rw (le-leb _ 9 c.if1.true)) (λ c. search rules) (λ c. rw (lt-leb _ 9 c.if1.false)))
+    (tie.spec (λ c. search rules) (λ c. rw (le-leb _ 9 c.if-d-le9.true)) (λ c. search rules) (λ c. rw (lt-leb _ 9 c.if-d-le9.false)))

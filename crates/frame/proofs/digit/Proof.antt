@@ -9,9 +9,9 @@ pub digit_spec : {M : Type 1} → statement M
 digit_spec =
     let met = tie.spec
     (λ c κs. search rules)
-    (λ c. sym (rw (sym c.before.is_digit.ensures ∙ not-true c.before.is_digit.result c.if1.true)))
-    (λ c κs. sym c.before.is_digit.ensures ∙ not-false c.before.is_digit.result c.if1.false)
+    (λ c. sym (rw (sym c.before.is_digit.ensures ∙ c.if-not-is_digit.true)))
+    (λ c κs. sym c.before.is_digit.ensures ∙ c.if-not-is_digit.false)
     (λ c.
     let i = c.before.before.is_digit in
-    c.digit-of.ensures ∙ sym (rw (sym i.ensures ∙ not-false i.result c.before.if1.false))) in
+    c.digit_of.ensures ∙ sym (rw (sym i.ensures ∙ c.before.if-not-is_digit.false))) in
     tie.close met

@@ -29,6 +29,6 @@ digit_of_spec =
     tie.close
     (tie.spec
     (λ c. from_zero _ c.before.requires)
-    (λ c. rw (le-leb _ 0x39 c.if1.true))
-    (λ c. from_a _ c.before.requires c.if1.false)
-    (λ c. rw (lt-leb _ 0x39 c.if1.false)))
+    (λ c. rw (le-leb _ 0x39 c.if-b-le57.true))
+    (λ c. from_a _ c.before.requires c.if-b-le57.false)
+    (λ c. rw (lt-leb _ 0x39 c.if-b-le57.false)))

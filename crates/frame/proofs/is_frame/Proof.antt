@@ -19,10 +19,10 @@ use Rattle.frame.proofs.is_frame.Tie as tie
 abbrev Passed : List ℕ → ℕ → Type 0
 Passed l i = (k : ℕ) → k < i → is_digit (get_or l k 0) ≡ true
 
-abbrev invariant-loop : tie.invariant-loop
+abbrev invariant-loop : tie.invariant-loop-i
 invariant-loop line i₀ i = (i ≤ 18) × Passed line i
 
-abbrev decreases-loop : tie.decreases-loop
+abbrev decreases-loop : tie.decreases-loop-i
 decreases-loop line i₀ i = 18 - i
 
 one_more : (l : List ℕ) (i : ℕ) → Passed l i → is_digit (get_or l i 0) ≡ true → Passed l (i + 1)
@@ -44,14 +44,14 @@ a_frame l e p = rw (eq-eqb (length l) 18 e) (all_of l (λ i h. p i (omega arith)
 
 -- ---- within the loop's body
 
-module _ (c : tie.In-loop invariant-loop decreases-loop) where
+module _ (c : tie.In-loop-i invariant-loop decreases-loop) where
   abbrev line : List ℕ
   line = c.before.before.before.before.args.line.now
 
-  place_lt : c.before.loop.i < length line
-  place_lt = omega (arith, c.loop-test.true, c.before.before.if1.false)
+  place_lt : c.before.loop-i.i < length line
+  place_lt = omega (arith, c.loop-i-test.true, c.before.before.if-line-ne18.false)
 
-read : (c : tie.After-is-digit invariant-loop decreases-loop) → let b = c.before.before in c.is_digit.result ≡ is_digit (get_or (line b) b.before.loop.i 0)
+read : (c : tie.After-is_digit invariant-loop decreases-loop) → let b = c.before.before in c.is_digit.result ≡ is_digit (get_or (line b) b.before.loop-i.i 0)
 read c = c.is_digit.ensures
 
 pub is_frame_spec : {M : Type 1} → statement M
@@ -60,21 +60,21 @@ is_frame_spec =
     (tie.spec
     invariant-loop
     decreases-loop
-    (λ c. rw (ne_eqb _ 18 c.if1.true))
+    (λ c. rw (ne_eqb _ 18 c.if-line-ne18.true))
     (λ c. (omega arith, λ k h. absurd (let z : ⊥ = omega arith in z)))
     (λ c. place_lt c.before)
     (λ c κs. search rules)
     (λ c.
     let b = c.before.before.before in
-    sym (no_frame (line b) b.before.loop.i (place_lt b) (sym (read c.before) ∙ not-true c.before.is_digit.result c.if2.true)))
+    sym (no_frame (line b) b.before.loop-i.i (place_lt b) (sym (read c.before) ∙ c.if-not-is_digit.true)))
     (λ c. search rules)
-    (λ c. omega (arith, c.before.before.before.loop-test.true))
+    (λ c. omega (arith, c.before.before.before.loop-i-test.true))
     (λ c.
     let b = c.before.before.before in (
-      omega (arith, b.loop-test.true),
-      one_more (line b) b.before.loop.i b.before.loop.invariant.1 (sym (read c.before) ∙ not-false c.before.is_digit.result c.if2.false),
+      omega (arith, b.loop-i-test.true),
+      one_more (line b) b.before.loop-i.i b.before.loop-i.invariant.1 (sym (read c.before) ∙ c.if-not-is_digit.false),
     ))
     (λ c.
-    let l = c.before.loop in
-    let e : l.i ≡ 18 = omega (arith, l.invariant.0, c.loop-test.false) in
-    sym (a_frame c.before.before.before.before.args.line.now c.before.before.if1.false (λ k h. l.invariant.1 k (rw e h)))))
+    let l = c.before.loop-i in
+    let e : l.i ≡ 18 = omega (arith, l.invariant.0, c.loop-i-test.false) in
+    sym (a_frame c.before.before.before.before.args.line.now c.before.before.if-line-ne18.false (λ k h. l.invariant.1 k (rw e h)))))

@@ -39,15 +39,15 @@ module _ (x i : ℕ) (ys zs : List ℕ) (w : Written x i ys zs) where
       let v : zs ≡ hex_bytes 10 x ++ drop 10 ys = w ∙ rw (e, t) in
       ap (λ (l : List ℕ). set l 10 10) v ∙ next_written (hex_bytes 10 x) ys 10 10 (hex_length 10 x) h
 
-abbrev invariant-loop : tie.invariant-loop
+abbrev invariant-loop : tie.invariant-loop-i
 invariant-loop words space₀ i₀ space i = (i ≤ 10) × Written words i space₀ space
 
-abbrev decreases-loop : tie.decreases-loop
+abbrev decreases-loop : tie.decreases-loop-i
 decreases-loop words space₀ i₀ space i = 10 - i
 
 -- ---- at the loop: the space has room, and is as long as it was
 
-module _ (c : tie.At-loop invariant-loop decreases-loop) where
+module _ (c : tie.At-loop-i invariant-loop decreases-loop) where
   abbrev space : List ℕ
   space = c.before.before.before.args.space.now
 
@@ -55,21 +55,21 @@ module _ (c : tie.At-loop invariant-loop decreases-loop) where
   words = c.before.before.before.args.words
 
   room : 11 ≤ length space
-  room = omega (arith, c.before.if1.false)
+  room = omega (arith, c.before.if-space-lt11.false)
 
-  as_long : length c.loop.space ≡ length space
-  as_long = let l = c.loop in written_length words l.i space l.space l.invariant.1 l.invariant.0 (omega (arith, room, l.invariant.0))
+  as_long : length c.loop-i.space ≡ length space
+  as_long = let l = c.loop-i in written_length words l.i space l.space l.invariant.1 l.invariant.0 (omega (arith, room, l.invariant.0))
 
 nibble_lt : (c : tie.After-nibble invariant-loop decreases-loop) → c.nibble.result < 16
 nibble_lt c = rw c.nibble.ensures (mod-lt _ (let z : 0 < 16 = omega arith in z))
 
-loop_again : tie.Need-loop-preserved invariant-loop decreases-loop
+loop_again : tie.Need-loop-i-preserved invariant-loop decreases-loop
 loop_again c =
     let b = c.before.before in
-    let l = b.before.loop in
+    let l = b.before.loop-i in
     let d : c.byte_of.result ≡ byte_of (words b.before / 16 ^ (9 - l.i) % 16) = c.byte_of.ensures ∙ ap byte_of c.before.nibble.ensures in (
-      omega (arith, b.loop-test.true),
-      rw d (one_more (words b.before) l.i (space b.before) l.space l.invariant.1 b.loop-test.true (omega (arith, room b.before, b.loop-test.true))),
+      omega (arith, b.loop-i-test.true),
+      rw d (one_more (words b.before) l.i (space b.before) l.space l.invariant.1 b.loop-i-test.true (omega (arith, room b.before, b.loop-i-test.true))),
     )
 
 pub write_spec : {M : Type 1} → statement M
@@ -77,20 +77,20 @@ write_spec =
     let met = tie.spec
     invariant-loop
     decreases-loop
-    (λ c. (rw (lt-ltb _ 11 c.if1.true), rw (lt-ltb _ 11 c.if1.true)))
+    (λ c. (rw (lt-ltb _ 11 c.if-space-lt11.true), rw (lt-ltb _ 11 c.if-space-lt11.true)))
     (λ c. (omega arith, refl))
-    (λ c κs. c.loop-test.true)
+    (λ c κs. c.loop-i-test.true)
     (λ c κs. nibble_lt c)
-    (λ c. let b = c.before.before in rw (as_long b.before) (omega (arith, room b.before, b.loop-test.true)))
+    (λ c. let b = c.before.before in rw (as_long b.before) (omega (arith, room b.before, b.loop-i-test.true)))
     (λ c. search rules)
-    (λ c. omega (arith, c.before.before.loop-test.true))
+    (λ c. omega (arith, c.before.before.loop-i-test.true))
     loop_again
     (λ c. rw (as_long c.before) (room c.before))
     (λ c. search rules)
     (λ c. rw length-set (as_long c.before))
     (λ c.
-    let l = c.before.loop in
-    let e : l.i ≡ 10 = omega (arith, l.invariant.0, c.loop-test.false) in
+    let l = c.before.loop-i in
+    let e : l.i ≡ 10 = omega (arith, l.invariant.0, c.loop-i-test.false) in
     let w = last (words c.before) l.i (space c.before) l.space l.invariant.1 e (room c.before) in
     (rw (le-ltb _ 11 (room c.before)), w ∙ rw (le-ltb _ 11 (room c.before)))) in
     tie.close met

@@ -24,8 +24,8 @@ well_shaped n x e = rw e
 abbrev shape : ℕ → ℕ → ℕ
 shape op b = shape_of (operands_of (kernel_of (kernel_number op))) b
 
-shape_is : (c : tie.After-shape-of) → let args = c.before.before.before.args in c.shape-of.result ≡ shape args.op args.b
-shape_is c = c.shape-of.ensures ∙ rw (c.before.operands.ensures, c.before.before.kernel-number.ensures)
+shape_is : (c : tie.After-shape_of-refusal) → let args = c.before.before.before.args in c.shape_of-refusal.result ≡ shape args.op args.b
+shape_is c = c.shape_of-refusal.ensures ∙ rw (c.before.operands.ensures, c.before.before.kernel_number.ensures)
 
 -- ---- a well shaped frame has an operation, so the call by number does not refuse it with 6
 
@@ -54,21 +54,21 @@ answer_spec =
     (λ c κs. search rules)
     (λ c.
     let s = shape_is c.before.before in
-    c.refused.ensures ∙ ap (λ (n : ℕ). packed n 0) s ∙ sym (misshapen _ _ (λ e. c.before.if1.true (s ∙ e))))
+    c.refused.ensures ∙ ap (λ (n : ℕ). packed n 0) s ∙ sym (misshapen _ _ (λ e. c.before.if-refusal-ne0.true (s ∙ e))))
     (λ c κs. search rules)
     (λ c. search rules)
     (λ c.
     let shaped = c.before.before.before in
     let args = shaped.before.before.before.args in
-    c.answer.ensures ∙ raw args.op args.a args.b c.before.if2.true ∙ sym (well_shaped _ _ (sym (shape_is shaped) ∙ c.before.before.if1.false)))
+    c.answer.ensures ∙ raw args.op args.a args.b c.before.if-op-ge-RAW.true ∙ sym (well_shaped _ _ (sym (shape_is shaped) ∙ c.before.before.if-refusal-ne0.false)))
     (λ c κs. search rules)
     (λ c κs. search rules)
     (λ c.
     let tested = c.before.before in
     let shaped = tested.before.before in
     let args = shaped.before.before.before.args in
-    let well = sym (shape_is shaped) ∙ tested.before.if1.false in
-    c.of-answer.ensures
-    ∙ guarded args.op args.a args.b c.before.call.result tested.if2.false well c.before.call.ensures
+    let well = sym (shape_is shaped) ∙ tested.before.if-refusal-ne0.false in
+    c.of_answer.ensures
+    ∙ guarded args.op args.a args.b c.before.call.result tested.if-op-ge-RAW.false well c.before.call.ensures
     ∙ sym (well_shaped _ _ well)) in
     tie.close met

@@ -7,5 +7,5 @@ pub kernel_number_spec : {M : Type 1} → statement M
 kernel_number_spec =
     tie.close
     (tie.spec
-    (λ c. rw (le-leb 0x80 _ c.if1.true))
-    (λ c. rw (lt-leb 0x80 _ c.if1.false)))
+    (λ c. rw (le-leb 0x80 _ c.if-op-ge-RAW.true))
+    (λ c. rw (lt-leb 0x80 _ c.if-op-ge-RAW.false)))

@@ -7,6 +7,6 @@ pub shape_of_spec : {M : Type 1} → statement M
 shape_of_spec =
     tie.close
     (tie.spec
-    (λ c. rw (eq-eqb _ 0 c.if1.true))
-    (λ c. rw (ne_eqb _ 0 c.before.if1.false, c.if2.true))
-    (λ c. rw (ne_eqb _ 0 c.before.if1.false, c.if2.false)))
+    (λ c. rw (eq-eqb _ 0 c.if-operands-eq0.true))
+    (λ c. rw (ne_eqb _ 0 c.before.if-operands-eq0.false, c.if-operands-b.true))
+    (λ c. rw (ne_eqb _ 0 c.before.if-operands-eq0.false, c.if-operands-b.false)))
