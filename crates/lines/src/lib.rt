@@ -1,12 +1,14 @@
 // Lines out of chunks: the answer to each line of an input, in its turn, however the input is cut.
 // `bench` feeds it what it reads.
+#![tactic(auto)]
+
 ghost use Rattle.std.specs.Prelude.{◌≡◌, take};
 ghost use Rattle.frame.specs.Frame.{left};
 ghost use Rattle.lines.specs.Held.{fresh, Feeds, Finishes};
 
 // The line begun and not ended yet: its first bytes, and how many they are. A frame has 18, so the
 // nineteenth says that a line is malformed, whatever follows.
-#[derive(Drop)]
+#[derive(Clone, Copy)]
 pub struct Lines {
     held: [u8; KEPT],
     count: usize,
@@ -16,7 +18,7 @@ const KEPT: usize = 19;
 
 // What has been done with a chunk: the line then begun, how many bytes of the chunk were read, and
 // how many bytes of answers stand at the front of the space.
-#[derive(Drop)]
+#[derive(Clone, Copy)]
 pub struct Fed {
     pub lines: Lines,
     pub read: usize,

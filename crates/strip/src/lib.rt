@@ -1,5 +1,7 @@
 // An operation over a strip: whole lists of words, place by place what the single call answers. The
 // exported call of `dampmeadow` stands on it.
+#![tactic(auto)]
+
 ghost use Rattle.std.specs.Prelude.{◌≡◌};
 ghost use Rattle.frame.specs.Words.{kernel_number};
 ghost use Rattle.strip.specs.Strip.{used, Fills, Agree, Strips};

@@ -8,7 +8,7 @@ use lib.Seq.{length-take-le, take_all}
 use Rattle.lines.proofs.answer_held.Statement.{statement}
 use Rattle.lines.proofs.answer_held.Tie as tie
 
-long : (c : tie.After-line) → length c.before.before.args.held.now ≡ 19
+long : (c : tie.After-line-1) → length c.before.before.args.held.now ≡ 19
 long c = c.line.given.0
 
 pub answer_held_spec : {M : Type 1} → statement M
@@ -24,4 +24,4 @@ answer_held_spec =
     (λ c.
     let a = c.before.before.before.before.before.before.before.args in
     let h : length a.held.now ≤ a.count = omega (arith, long c.before.before.before.before.before) in
-    rw (take_all a.count a.held.now h) c.before.before.answer2.ensures.1))
+    rw (take_all a.count a.held.now h) c.before.before.answer-else-count-lt-KEPT.ensures.1))

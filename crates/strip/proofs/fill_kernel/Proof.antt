@@ -14,8 +14,8 @@ raw_form op number e h = let d = rw (le-leb 0x80 op h) at e in omega (arith, d, 
 guarded_form : (op number : ℕ) → kernel_number op ≡ number → op < 0x80 → op ≡ number
 guarded_form op number e h = rw (lt-leb 0x80 op h) at e
 
-raw_is : (c : tie.Then1) → let s = c.before.before.before.before.before in s.args.op ≡ 0x80 + s.args.number
-raw_is c = raw_form _ _ c.before.before.before.before.before.requires.0 c.if1.true
+raw_is : (c : tie.Then-op-ge-RAW) → let s = c.before.before.before.before.before in s.args.op ≡ 0x80 + s.args.number
+raw_is c = raw_form _ _ c.before.before.before.before.before.requires.0 c.if-op-ge-RAW.true
 
 pub fill_kernel_spec : {M : Type 1} → statement M
 fill_kernel_spec =
@@ -31,5 +31,5 @@ fill_kernel_spec =
     (λ c.
     let f = c.before.before.before.before in
     let e = f.before.before.before in
-    rw (guarded_form _ _ e.before.before.before.before.before.requires.0 e.if1.false) f.fill2.ensures) in
+    rw (guarded_form _ _ e.before.before.before.before.before.requires.0 e.if-op-ge-RAW.false) f.fill-else-op-ge-RAW.ensures) in
     tie.close met

@@ -7,5 +7,5 @@ pub used_spec : {M : Type 1} → statement M
 used_spec =
     tie.close
     (tie.spec
-    (λ c. rw (eq-eqb _ 2 c.if1.true))
-    (λ c. rw (ne_eqb _ 2 c.if1.false)))
+    (λ c. rw (eq-eqb _ 2 c.if-operands-eq2.true))
+    (λ c. rw (ne_eqb _ 2 c.if-operands-eq2.false)))

@@ -28,17 +28,17 @@ one s space space' h n e =
     let a : last_answer s ≡ answer_bytes (line_of s) = ap (answers answer_bytes) (begun (line_of s) m) ∙ append-nil (answer_bytes (line_of s)) in
     record { needed = sym (ap length a ∙ answer_length (line_of s)); bytes = e ∙ rw a }
 
-long : (c : tie.After-held) → length c.before.before.args.self.held ≡ 19
+long : (c : tie.After-held-1) → length c.before.before.args.self.held ≡ 19
 long c = search rules
 
 pub finish_spec : {M : Type 1} → statement M
 finish_spec =
     tie.close
     (tie.spec
-    (λ c. none _ _ c.if1.true)
+    (λ c. none _ _ c.if-count-eq0.true)
     (λ c κs. search rules)
     (λ c. search rules)
     (λ c.
     let answered = c.before.before in
     let tested = answered.before.before.before in
-    one tested.before.before.before.args.self _ _ (long tested.before) tested.if1.false answered.answer-held.ensures))
+    one tested.before.before.before.args.self _ _ (long tested.before) tested.if-count-eq0.false answered.answer_held.ensures))

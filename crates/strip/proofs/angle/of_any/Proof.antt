@@ -8,7 +8,7 @@ use Rattle.strip.proofs.Quadrants.{read_ratio, ratio_fits, answered}
 use Rattle.strip.proofs.angle.of_any.Statement.{statement}
 use Rattle.strip.proofs.angle.of_any.Tie as tie
 
-quotient_is : (c : tie.After-ratio) → let a = c.before.before.before.before.before.args in c.ratio.result ≡ ratio (of_bits binary32 a.y) (of_bits binary32 a.x)
+quotient_is : (c : tie.After-ratio-quotient) → let a = c.before.before.before.before.before.args in c.ratio-quotient.result ≡ ratio (of_bits binary32 a.y) (of_bits binary32 a.x)
 quotient_is c = let a = c.before.before.before.before.before.args in cc (read_ratio a.y a.x)
 
 pub of_any_spec : {M : Type 1} → statement M

@@ -10,8 +10,8 @@ pub ratio_spec : {M : Type 1} → statement M
 ratio_spec =
     let met = tie.spec
     (λ c κs. search rules)
-    (λ c. rw (c.before.abs.ensures.0, size_nan binary32 _, c.before.before.requires.0) tt)
+    (λ c. rw (c.before.abs-height.ensures.0, size_nan binary32 _, c.before.before.requires.0) tt)
     (λ c κs. search rules)
-    (λ c. rw (c.before.abs2.ensures.0, size_nan binary32 _, c.before.before.before.before.requires.1) tt)
-    (λ c. sized_ratio _ _ c.before.before.before.abs.ensures.0 c.before.abs2.ensures.0) in
+    (λ c. rw (c.before.abs-across.ensures.0, size_nan binary32 _, c.before.before.before.before.requires.1) tt)
+    (λ c. sized_ratio _ _ c.before.before.before.abs-height.ensures.0 c.before.abs-across.ensures.0) in
     tie.close met

@@ -10,6 +10,6 @@ turned_spec =
     (λ c. let s = c.before in from_exact s.args.y s.args.x s.args.quotient s.ranges.y.fits s.ranges.x.fits s.ranges.quotient.fits s.requires)
     (λ c. let s = c.before in signed_number s.args.y s.args.x s.args.quotient s.ranges.y.fits s.ranges.x.fits s.ranges.quotient.fits s.requires)
     (λ c κs. search rules)
-    (λ c. let s = c.before.before in angle_number s.args.y s.args.x s.args.quotient s.ranges.y.fits s.ranges.x.fits s.ranges.quotient.fits s.requires c.whole-turn.ensures)
-    (λ c. let s = c.before.before in angle_is s.args.y s.args.x s.args.quotient s.ranges.y.fits s.ranges.x.fits s.ranges.quotient.fits s.requires c.whole-turn.ensures) in
+    (λ c. let s = c.before.before in angle_number s.args.y s.args.x s.args.quotient s.ranges.y.fits s.ranges.x.fits s.ranges.quotient.fits s.requires c.whole_turn.ensures)
+    (λ c. let s = c.before.before in angle_is s.args.y s.args.x s.args.quotient s.ranges.y.fits s.ranges.x.fits s.ranges.quotient.fits s.requires c.whole_turn.ensures) in
     tie.close met

@@ -10,7 +10,7 @@ use Rattle.strip.proofs.Slopes.{slope_fits, answered}
 use Rattle.strip.proofs.atan.of_any.Statement.{statement}
 use Rattle.strip.proofs.atan.of_any.Tie as tie
 
-quotient_is : (c : tie.After-slope) → let w = c.before.before.before.args.w in c.slope.result ≡ first_quadrant ieee (of_bits binary32 (cond (nan_bits binary32 w) 0 w))
+quotient_is : (c : tie.After-slope-quotient) → let w = c.before.before.before.args.w in c.slope-quotient.result ≡ first_quadrant ieee (of_bits binary32 (cond (nan_bits binary32 w) 0 w))
 quotient_is c = cc
 
 pub of_any_spec : {M : Type 1} → statement M

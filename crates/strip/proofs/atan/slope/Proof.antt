@@ -10,6 +10,6 @@ pub slope_spec : {M : Type 1} → statement M
 slope_spec =
     let met = tie.spec
     (λ c κs. search rules)
-    (λ c. rw (c.before.abs.ensures.0, size_nan binary32 _, c.before.before.requires) tt)
-    (λ c. sized_slope _ c.before.abs.ensures.0) in
+    (λ c. rw (c.before.abs-size.ensures.0, size_nan binary32 _, c.before.before.requires) tt)
+    (λ c. sized_slope _ c.before.abs-size.ensures.0) in
     tie.close met

@@ -12,12 +12,12 @@ bit_block_spec =
     (λ c κs. search rules)
     (λ c κs.
     let s = c.before.before.before.before.before.before.before.before.before.before.before.before.before.before in
-    let r = c.before.before.before.before.before.before.before.try-bits.auto in
-    (record { seconds = s.requires.0.seconds; words = r.1.1.1.0 ∙ s.requires.0.words; numbers = r.1.1.1.1.0 ∙ s.requires.0.numbers }, bits_have_blocks s.args.op s.requires.1))
-    (λ c. c.before.before.before.before.each.auto.1.1.1.0 ∙ c.before.before.before.before.before.before.before.before.before.before.before.before.try-bits.auto.1.1.1.0)
-    (λ c. c.before.before.before.before.each.auto.1.1.1.1.0 ∙ c.before.before.before.before.before.before.before.before.before.before.before.before.try-bits.auto.1.1.1.1.0)
+    let r = c.before.before.before.before.before.before.before.try_bits.auto in
+    (record { seconds = s.requires.0.seconds; words = r.answers ∙ s.requires.0.words; numbers = r.refusals ∙ s.requires.0.numbers }, bits_have_blocks s.args.op s.requires.1))
+    (λ c. c.before.before.before.before.each.auto.answers ∙ c.before.before.before.before.before.before.before.before.before.before.before.before.try_bits.auto.answers)
+    (λ c. c.before.before.before.before.each.auto.refusals ∙ c.before.before.before.before.before.before.before.before.before.before.before.before.try_bits.auto.refusals)
     (λ c. c.before.before.before.before.each.ensures)
     (λ c. search rules)
     (λ c. search rules)
-    (λ c. c.before.before.before.before.before.try-bits.ensures (not-false _ c.if1.false)) in
+    (λ c. c.before.before.before.before.before.try_bits.ensures (c.if-not-try_bits.false)) in
     tie.close met

@@ -9,15 +9,15 @@ use Rattle.strip.proofs.Sofar.{Sofar, none_filled, words_long, numbers_long, wor
 use Rattle.strip.proofs.blocks.each.Statement.{statement}
 use Rattle.strip.proofs.blocks.each.Tie as tie
 
-abbrev invariant-loop : tie.invariant-loop
+abbrev invariant-loop : tie.invariant-loop-i
 invariant-loop op first second answers₀ refusals₀ i₀ answers refusals i = Sofar op first second answers₀ refusals₀ answers refusals i
 
-abbrev decreases-loop : tie.decreases-loop
+abbrev decreases-loop : tie.decreases-loop-i
 decreases-loop op first second answers₀ refusals₀ i₀ answers refusals i = length first - i
 
 -- ---- at the loop
 
-module _ (c : tie.At-loop invariant-loop decreases-loop) where
+module _ (c : tie.At-loop-i invariant-loop decreases-loop) where
   abbrev start : tie.Start invariant-loop decreases-loop
   start = c.before.before.before.before.before
 
@@ -30,23 +30,23 @@ each_spec =
     (λ c. search rules)
     (λ c. search rules)
     (λ c. search rules)
-    (λ c. let t = c.before.before in rw (start t.before).pre.0.seconds t.loop-test.true)
-    (λ c κs. (start c.before.before.before).pre.1)
+    (λ c. let t = c.before.before in rw (start t.before).requires.0.seconds t.loop-i-test.true)
+    (λ c κs. (start c.before.before.before).requires.1)
     (λ c. search rules)
-    (λ c. c.before.before.before.before.loop-test.true)
+    (λ c. c.before.before.before.before.loop-i-test.true)
     (λ c. search rules)
-    (λ c. let t = c.before.before.before.before.before in rw (start t.before).pre.0.seconds t.loop-test.true)
-    (λ c κs. ((start c.before.before.before.before.before.before).pre.1, c.before.before.number.ensures))
+    (λ c. let t = c.before.before.before.before.before in rw (start t.before).requires.0.seconds t.loop-i-test.true)
+    (λ c κs. ((start c.before.before.before.before.before.before).requires.1, c.before.before.number-number.ensures))
     (λ c. search rules)
-    (λ c. let t = c.before.before.before.before.before.before in word_place _ (start t.before).pre.0 _ t.before.loop.invariant t.loop-test.true)
+    (λ c. let t = c.before.before.before.before.before.before in word_place _ (start t.before).requires.0 _ t.before.loop-i.invariant t.loop-i-test.true)
     (λ c. search rules)
-    (λ c. let t = c.before.before.before.before.before.before in number_place _ (start t.before).pre.0 _ t.before.loop.invariant t.loop-test.true)
+    (λ c. let t = c.before.before.before.before.before.before in number_place _ (start t.before).requires.0 _ t.before.loop-i.invariant t.loop-i-test.true)
     (λ c. search rules)
-    (λ c. omega (arith, c.before.before.before.before.before.before.loop-test.true))
+    (λ c. omega (arith, c.before.before.before.before.before.before.loop-i-test.true))
     (λ c.
     let t = c.before.before.before.before.before.before in
-    next_filled _ (start t.before).pre.0 _ t.before.loop.invariant _ _ t.loop-test.true c.beside.ensures c.before.before.before.number.ensures)
-    (λ c. let l = c.before in words_long _ (start l).requires.0 _ l.loop.invariant ∙ sym (start l).requires.0.words)
-    (λ c. let l = c.before in numbers_long _ (start l).requires.0 _ l.loop.invariant ∙ sym (start l).requires.0.numbers)
-    (λ c. let l = c.before in filled _ (start l).requires.0 _ l.loop.invariant c.loop-test.false) in
+    next_filled _ (start t.before).requires.0 _ t.before.loop-i.invariant _ _ t.loop-i-test.true c.beside.ensures c.before.before.before.number-number.ensures)
+    (λ c. let l = c.before in words_long _ (start l).requires.0 _ l.loop-i.invariant ∙ sym (start l).requires.0.words)
+    (λ c. let l = c.before in numbers_long _ (start l).requires.0 _ l.loop-i.invariant ∙ sym (start l).requires.0.numbers)
+    (λ c. let l = c.before in filled _ (start l).requires.0 _ l.loop-i.invariant c.loop-i-test.false) in
     tie.close met

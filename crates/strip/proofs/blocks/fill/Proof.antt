@@ -11,55 +11,55 @@ use Rattle.strip.proofs.InBlocks.{part_agrees, next_block}
 use Rattle.strip.proofs.blocks.fill.Statement.{statement}
 use Rattle.strip.proofs.blocks.fill.Tie as tie
 
-abbrev invariant-loop : tie.invariant-loop
+abbrev invariant-loop : tie.invariant-loop-i
 invariant-loop op first second answers₀ refusals₀ count i₀ answers refusals i = Sofar op first second answers₀ refusals₀ answers refusals i
 
-abbrev decreases-loop : tie.decreases-loop
+abbrev decreases-loop : tie.decreases-loop-i
 decreases-loop op first second answers₀ refusals₀ count i₀ answers refusals i = length first - i
 
 -- ---- at the loop: what is known of the lists
 
-module _ (c : tie.At-loop invariant-loop decreases-loop) where
+module _ (c : tie.At-loop-i invariant-loop decreases-loop) where
   abbrev start : tie.Start invariant-loop decreases-loop
   start = c.before.before.before.before.before
 
   abbrev i : ℕ
-  i = c.loop.i
+  i = c.loop-i.i
 
   abbrev first : List ℕ
   first = start.args.first.now
 
   seconds : length start.args.second.now ≡ length first
-  seconds = start.pre.seconds
+  seconds = start.requires.seconds
 
-  words : length c.loop.answers ≡ length first
-  words = words_long _ start.pre _ c.loop.invariant
+  words : length c.loop-i.answers ≡ length first
+  words = words_long _ start.requires _ c.loop-i.invariant
 
-  numbers : length c.loop.refusals ≡ length first
-  numbers = numbers_long _ start.pre _ c.loop.invariant
+  numbers : length c.loop-i.refusals ≡ length first
+  numbers = numbers_long _ start.requires _ c.loop-i.invariant
 
   -- a block more has room
   room : 32 ≤ length first - i → i + 32 ≤ length first
-  room h = omega (arith, h, c.loop.invariant.within)
+  room h = omega (arith, h, c.loop-i.invariant.within)
 
   scaled : i * 4 < 2 ^ 64
-  scaled = omega (arith, c.loop.invariant.within, start.good.1.0.1)
+  scaled = omega (arith, c.loop-i.invariant.within, start.well_formed.1.0.1)
 
-loop_again : tie.Need-loop-preserved invariant-loop decreases-loop
+loop_again : tie.Need-loop-i-preserved invariant-loop decreases-loop
 loop_again c =
     let t = c.before.before.before.before.before.before.before.before.before in
     let l = t.before in
-    next_block _ (start l).requires _ _ l.loop.invariant (let z : i l ≤ i l + 32 = omega arith in z) (room l t.loop-test.true) c.before.before.before.before.block.ensures
+    next_block _ (start l).requires _ _ l.loop-i.invariant (let z : i l ≤ i l + 32 = omega arith in z) (room l t.loop-i-test.true) c.before.before.before.before.block.ensures
 
 -- ---- behind the loop
 
-module _ (c : tie.After-slice-known6 invariant-loop decreases-loop) where
-  abbrev left : tie.At-loop invariant-loop decreases-loop
+module _ (c : tie.After-slice_known-4-1 invariant-loop decreases-loop) where
+  abbrev left : tie.At-loop-i invariant-loop decreases-loop
   left = c.before.before.before.before.before.before.before.before.before.before
 
   all_done : Sofar (start left).args.op (first left) (start left).args.second.now (start left).args.answers.now (start left).args.refusals.now
-      (put_mid (i left) (length (first left) - i left) left.loop.answers c.before.before.before.before.rest.new.1.1.1.0) (put_mid (i left) (length (first left) - i left) left.loop.refusals c.before.before.before.before.rest.new.1.1.1.1.0) (length (first left))
-  all_done = next_block _ (start left).pre _ _ left.loop.inv left.loop.inv.within (le_refl _) c.before.before.before.before.rest.ensures
+      (put_mid (i left) (length (first left) - i left) left.loop-i.answers c.before.before.before.before.rest.new.answers) (put_mid (i left) (length (first left) - i left) left.loop-i.refusals c.before.before.before.before.rest.new.refusals) (length (first left))
+  all_done = next_block _ (start left).requires _ _ left.loop-i.invariant left.loop-i.invariant.within (le_refl _) c.before.before.before.before.rest.ensures
 
 pub fill_spec : {M : Type 1} → statement M
 fill_spec =
@@ -67,46 +67,46 @@ fill_spec =
     invariant-loop
     decreases-loop
     (λ c. none_filled _ c.before.before.before.before.requires)
-    (λ c. c.loop.invariant.within)
-    (λ c. record { fits = omega (arith, room c.before c.loop-test.true, (start c.before).good.1.0.0) })
+    (λ c. c.loop-i.invariant.within)
+    (λ c. record { fits = omega (arith, room c.before c.loop-i-test.true, (start c.before).well_formed.1.0.0) })
     (λ c. record { fits = scaled c.before })
     (λ c. omega arith)
     (λ c. omega arith)
-    (λ c. omega (arith, room c.before c.loop-test.true))
+    (λ c. omega (arith, room c.before c.loop-i-test.true))
     (λ c. record { fits = scaled c.before.before })
     (λ c. omega arith)
     (λ c. omega arith)
-    (λ c. rw (seconds c.before.before) (omega (arith, room c.before.before c.before.loop-test.true)))
+    (λ c. rw (seconds c.before.before) (omega (arith, room c.before.before c.before.loop-i-test.true)))
     (λ c. record { fits = scaled c.before.before.before })
     (λ c. omega arith)
     (λ c. omega arith)
-    (λ c. rw (words c.before.before.before) (omega (arith, room c.before.before.before c.before.before.loop-test.true)))
+    (λ c. rw (words c.before.before.before) (omega (arith, room c.before.before.before c.before.before.loop-i-test.true)))
     (λ c. record { fits = scaled c.before.before.before.before })
     (λ c. omega arith)
     (λ c. omega arith)
-    (λ c. rw (numbers c.before.before.before.before) (omega (arith, room c.before.before.before.before c.before.before.before.loop-test.true)))
-    (λ c κs. part_agrees _ (start c.before.before.before.before.before).pre _ _ c.before.before.before.before.before.loop.invariant (let z : i c.before.before.before.before.before ≤ i c.before.before.before.before.before + 32 = omega arith in z) (room c.before.before.before.before.before c.before.before.before.before.loop-test.true))
-    (λ c. record { fits = omega (arith, room c.before.before.before.before.before.before.before.before.before.before c.before.before.before.before.before.before.before.before.before.loop-test.true, (start c.before.before.before.before.before.before.before.before.before.before).good.1.0.0) })
-    (λ c. omega (arith, room c.before.before.before.before.before.before.before.before.before.before c.before.before.before.before.before.before.before.before.before.loop-test.true))
+    (λ c. rw (numbers c.before.before.before.before) (omega (arith, room c.before.before.before.before c.before.before.before.loop-i-test.true)))
+    (λ c κs. part_agrees _ (start c.before.before.before.before.before).requires _ _ c.before.before.before.before.before.loop-i.invariant (let z : i c.before.before.before.before.before ≤ i c.before.before.before.before.before + 32 = omega arith in z) (room c.before.before.before.before.before c.before.before.before.before.loop-i-test.true))
+    (λ c. record { fits = omega (arith, room c.before.before.before.before.before.before.before.before.before.before c.before.before.before.before.before.before.before.before.before.loop-i-test.true, (start c.before.before.before.before.before.before.before.before.before.before).well_formed.1.0.0) })
+    (λ c. omega (arith, room c.before.before.before.before.before.before.before.before.before.before c.before.before.before.before.before.before.before.before.before.loop-i-test.true))
     loop_again
     (λ c. record { fits = scaled c.before })
-    (λ c. c.before.loop.invariant.within)
-    (λ c. c.before.loop.invariant.within)
+    (λ c. c.before.loop-i.invariant.within)
+    (λ c. c.before.loop-i.invariant.within)
     (λ c. le_refl _)
     (λ c. record { fits = scaled c.before.before })
-    (λ c. c.before.before.loop.invariant.within)
-    (λ c. c.before.before.loop.invariant.within)
+    (λ c. c.before.before.loop-i.invariant.within)
+    (λ c. c.before.before.loop-i.invariant.within)
     (λ c. le_of_eq (sym (seconds c.before.before)))
     (λ c. record { fits = scaled c.before.before.before })
-    (λ c. c.before.before.before.loop.invariant.within)
-    (λ c. c.before.before.before.loop.invariant.within)
+    (λ c. c.before.before.before.loop-i.invariant.within)
+    (λ c. c.before.before.before.loop-i.invariant.within)
     (λ c. le_of_eq (sym (words c.before.before.before)))
     (λ c. record { fits = scaled c.before.before.before.before })
-    (λ c. c.before.before.before.before.loop.invariant.within)
-    (λ c. c.before.before.before.before.loop.invariant.within)
+    (λ c. c.before.before.before.before.loop-i.invariant.within)
+    (λ c. c.before.before.before.before.loop-i.invariant.within)
     (λ c. le_of_eq (sym (numbers c.before.before.before.before)))
-    (λ c κs. part_agrees _ (start c.before.before.before.before.before).pre _ _ c.before.before.before.before.before.loop.invariant c.before.before.before.before.before.loop.invariant.within (le_refl _))
-    (λ c. words_long _ (start c.before.before.before.before.before.before.before.before.before.before).pre _ (all_done c) ∙ sym (start c.before.before.before.before.before.before.before.before.before.before).pre.words)
-    (λ c. numbers_long _ (start c.before.before.before.before.before.before.before.before.before.before).pre _ (all_done c) ∙ sym (start c.before.before.before.before.before.before.before.before.before.before).pre.numbers)
-    (λ c. filled _ (start c.before.before.before.before.before.before.before.before.before.before).pre _ (all_done c) (le_refl _)) in
+    (λ c κs. part_agrees _ (start c.before.before.before.before.before).requires _ _ c.before.before.before.before.before.loop-i.invariant c.before.before.before.before.before.loop-i.invariant.within (le_refl _))
+    (λ c. words_long _ (start c.before.before.before.before.before.before.before.before.before.before).requires _ (all_done c) ∙ sym (start c.before.before.before.before.before.before.before.before.before.before).requires.words)
+    (λ c. numbers_long _ (start c.before.before.before.before.before.before.before.before.before.before).requires _ (all_done c) ∙ sym (start c.before.before.before.before.before.before.before.before.before.before).requires.numbers)
+    (λ c. filled _ (start c.before.before.before.before.before.before.before.before.before.before).requires _ (all_done c) (le_refl _)) in
     tie.close met

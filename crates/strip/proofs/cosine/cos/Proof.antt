@@ -38,5 +38,5 @@ cos_spec =
     (λ c κs. (add-fits binary32 _ _, at_most_word binary32 0x4a00_0000 _ (add-fits binary32 _ _) (add_at_most 0x4a00_0000 (turns_size c.args.w c.requires) (constant binary32 0x3e80_0000 tt) tt)))
     (λ c κs. (sub-fits binary32 _ _, rw c.floor.ensures (at_most_number (part_size c.before.args.w c.before.requires))))
     (λ c κs. (mul-fits binary32 _ _, rw (c.size.ensures, c.before.floor.ensures) (at_most_number (curve_size c.before.before.args.w c.before.before.requires))))
-    (λ c. rw (c.size2.ensures, c.before.size.ensures, c.before.before.floor.ensures, at_most_number (refined_at_most (mul-fits binary32 _ _) (curve_size c.before.before.before.args.w c.before.before.before.requires))) tt)
+    (λ c. rw (c.size-2.ensures, c.before.size.ensures, c.before.before.floor.ensures, at_most_number (refined_at_most (mul-fits binary32 _ _) (curve_size c.before.before.before.args.w c.before.before.before.requires))) tt)
     (λ c. cc))

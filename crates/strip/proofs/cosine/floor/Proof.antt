@@ -7,5 +7,5 @@ pub floor_spec : {M : Type 1} → statement M
 floor_spec =
     tie.close
     (tie.spec
-    (λ c. rw c.if1.true at (near_floor c.before.args.x c.before.requires.0 c.before.requires.1))
-    (λ c. rw c.if1.false at (near_floor c.before.args.x c.before.requires.0 c.before.requires.1)))
+    (λ c. rw c.if-x-near.true at (near_floor c.before.args.x c.before.requires.0 c.before.requires.1))
+    (λ c. rw c.if-x-near.false at (near_floor c.before.args.x c.before.requires.0 c.before.requires.1)))

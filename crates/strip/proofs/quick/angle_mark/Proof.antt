@@ -13,5 +13,5 @@ angle_mark_spec =
     (λ c. search rules)
     (λ c. search rules)
     (λ c. search rules)
-    (λ c. let s = c.before.before in angle_told s.args.y s.args.x c.before.without_sign.result.0 c.without-sign2.result.0 c.before.without_sign.ensures c.without-sign2.ensures) in
+    (λ c. let s = c.before.before in angle_told s.args.y s.args.x c.before.without_sign-height.result.0 c.without_sign-across.result.0 c.before.without_sign-height.ensures c.without_sign-across.ensures) in
     tie.close met

@@ -10,6 +10,6 @@ guarded_angle_spec =
     (λ c κs. search rules)
     (λ c κs. search rules)
     (λ c κs. search rules)
-    (λ c κs. let a = c.before.before.before.args in rw (c.before.either.ensures, c.either2.ensures, c.before.before.angle-inside.ensures) (pair_reach a.y a.x))
+    (λ c κs. let a = c.before.before.before.args in rw (c.before.either.ensures, c.either-2.ensures, c.before.before.angle_inside-inside.ensures) (pair_reach a.y a.x))
     (λ c. cc) in
     tie.close met

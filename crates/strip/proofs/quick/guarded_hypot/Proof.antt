@@ -15,6 +15,6 @@ guarded_hypot_spec =
     (λ c κs.
     let a = c.before.before.before.args in
     let r = pair_reach a.a a.b in
-    rw (c.before.either.ensures, c.either2.ensures, c.before.before.angle-inside.ensures) (no_nan _ (le_trans r.height (lit≤ tt)), no_nan _ (le_trans r.across (lit≤ tt))))
+    rw (c.before.either.ensures, c.either-2.ensures, c.before.before.angle_inside-inside.ensures) (no_nan _ (le_trans r.height (lit≤ tt)), no_nan _ (le_trans r.across (lit≤ tt))))
     (λ c. cc) in
     tie.close met

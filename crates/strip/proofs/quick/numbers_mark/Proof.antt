@@ -9,5 +9,5 @@ numbers_mark_spec =
     let met = tie.spec
     (λ c κs. search rules)
     (λ c κs. search rules)
-    (λ c. numbers_told c.before.size-mark.result c.size-mark2.result _ _ c.before.size-mark.ensures c.size-mark2.ensures) in
+    (λ c. numbers_told c.before.size_mark.result c.size_mark-2.result _ _ c.before.size_mark.ensures c.size_mark-2.ensures) in
     tie.close met

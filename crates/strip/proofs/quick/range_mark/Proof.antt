@@ -17,5 +17,5 @@ range_mark_spec =
     (λ c κs. search rules)
     (λ c.
     let w = c.before.before.before.args.w in
-    range_told c.before.before.size-mark.result c.sum.result (magnitude binary32 w) (magnitude_lt binary32 w) c.before.before.size-mark.ensures (c.sum.ensures ∙ ap (λ (m : ℕ). (m + 0xff80_0000) % 2 ^ 32) c.before.without_sign.ensures)) in
+    range_told c.before.before.size_mark.result c.sum.result (magnitude binary32 w) (magnitude_lt binary32 w) c.before.before.size_mark.ensures (c.sum.ensures ∙ ap (λ (m : ℕ). (m + 0xff80_0000) % 2 ^ 32) c.before.without_sign.ensures)) in
     tie.close met
