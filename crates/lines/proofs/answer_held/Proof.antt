@@ -9,13 +9,13 @@ use Rattle.lines.proofs.answer_held.Statement.{statement}
 use Rattle.lines.proofs.answer_held.Tie as tie
 
 long : (c : tie.After-line-1) → length c.before.before.args.held.now ≡ 19
-long c = c.line.given.0
+long c = c.line-1.given
 
 pub answer_held_spec : {M : Type 1} → statement M
 answer_held_spec =
     tie.close
     (tie.spec
-    (λ c. sym (length-take-le _ _ (omega (arith, long c.before.before))))
+    (λ c. sym (length-take-le _ _ (omega (arith, long c.before))))
     (λ c κs. search rules)
     (λ c κs. search rules)
     (λ c. search rules)

@@ -17,24 +17,24 @@ use Rattle.recipe.specs.Begins.{digits, begins}
 use Rattle.recipe.specs.Reader.{head_op, ReadsFrom, factor_at, opened, names}
 use Rattle.recipe.proofs.Groups.{nothing, a_number, a_letter, letter_fits, unopened, opening_fits, opening_lt, no_depth, unclosed, a_group}
 use Rattle.recipe.proofs.Ranks.{ProductStands, product_first, product_again, product_last, SumStands, sum_first, sum_again, sum_last}
-use Rattle.recipe.proofs.reader.factor-first.Reads as factor
-use Rattle.recipe.proofs.reader.factor-first.Kinds as factor_kinds
+use Rattle.recipe.proofs.reader.factor.Reads as factor
+use Rattle.recipe.proofs.reader.factor.Kinds as factor_kinds
 use Rattle.recipe.proofs.reader.+factor_product_sum.Lts-factor as factor_lts
-use Rattle.recipe.proofs.reader.product-first.Reads as product
-use Rattle.recipe.proofs.reader.product-first.Kinds as product_kinds
+use Rattle.recipe.proofs.reader.product.Reads as product
+use Rattle.recipe.proofs.reader.product.Kinds as product_kinds
 use Rattle.recipe.proofs.reader.+factor_product_sum.Lts-product as product_lts
-use Rattle.recipe.proofs.reader.sum-inner.Reads as sum
-use Rattle.recipe.proofs.reader.sum-inner.Kinds as sum_kinds
+use Rattle.recipe.proofs.reader.sum.Reads as sum
+use Rattle.recipe.proofs.reader.sum.Kinds as sum_kinds
 use Rattle.recipe.proofs.reader.+factor_product_sum.Lts-sum as sum_lts
 use Rattle.float.proofs.F32.value.Reads as value_reads
 use Rattle.recipe.proofs.reader.applied.Reads as applied_reads
-use Rattle.recipe.proofs.token.number-number.Reads as number_reads
-use Rattle.recipe.proofs.token.opening-open.Reads as opening_reads
-use Rattle.recipe.proofs.reader.operator-op.Reads as operator_reads
-use Rattle.recipe.proofs.reader.plus-value.Reads as plus_reads
-use Rattle.recipe.proofs.reader.sooner-refusal.Reads as sooner_reads
+use Rattle.recipe.proofs.token.number.Reads as number_reads
+use Rattle.recipe.proofs.token.opening.Reads as opening_reads
+use Rattle.recipe.proofs.reader.operator.Reads as operator_reads
+use Rattle.recipe.proofs.reader.plus.Reads as plus_reads
+use Rattle.recipe.proofs.reader.sooner.Reads as sooner_reads
 use Rattle.recipe.proofs.token.starts.Reads as starts_reads
-use Rattle.recipe.proofs.reader.times-value.Reads as times_reads
+use Rattle.recipe.proofs.reader.times.Reads as times_reads
 use Rattle.recipe.proofs.reader.wrong.Reads as wrong_reads
 use Rattle.recipe.proofs.reader.+factor_product_sum.{statement}
 use Rattle.recipe.proofs.reader.+factor_product_sum.Tie.{close}
@@ -95,7 +95,7 @@ sum-μ-loop line at depth x wrong₀ refusal₀ value₀ next₀ op₀ wrong ref
 
 module _ (t : ℕ) (c : factor_lts.Else-starts (factor_claims t) (factor_held t) factor.Post) where
   abbrev factor_number : factor_lts.After-number-number (factor_claims t) (factor_held t) factor.Post
-  factor_number = c.before.before.before.before
+  factor_number = c.before.before.before.before.before
 
   abbrev factor_start : factor_lts.Start (factor_claims t) (factor_held t) factor.Post
   factor_start = factor_number.before.before
@@ -104,7 +104,7 @@ module _ (t : ℕ) (c : factor_lts.Else-starts (factor_claims t) (factor_held t)
   factor_line = factor_start.args.line.now
 
   factor_digits : digits 8 (drop factor_start.args.at factor_line) ≡ false
-  factor_digits = sym factor_number.number-number.ensures.0 ∙ c.before.before.before.if-number.false
+  factor_digits = sym factor_number.number-number.ensures.0 ∙ c.before.before.before.before.if-number.false
 
   factor_letter : begins (bytes "x") (drop factor_start.args.at factor_line) ≡ false
   factor_letter = sym c.before.starts.ensures ∙ c.if-starts.false
@@ -113,7 +113,7 @@ module _ (t : ℕ) (c : factor_lts.Else-starts (factor_claims t) (factor_held t)
   factor_none : (r : Read) → (r.wrong ≡ true) × (r.next ≡ length factor_line) → factor_at factor_start.args.depth (drop factor_start.args.at factor_line) ≡ none
       → ReadsFrom (refusal_factor factor_start.args.x) (value_factor factor_start.args.x) factor_line factor_start.args.at (factor_at factor_start.args.depth (drop factor_start.args.at factor_line)) r
   factor_none r w e = record {
-    on = omega (arith, factor_start.pre.1, w.1);
+    on = omega (arith, factor_start.requires.1, w.1);
     within = omega (arith, w.1);
     reads = nothing factor_start.args.x factor_line _ r.wrong r.refusal r.value r.next e w.0 w.1;
   }
@@ -146,8 +146,8 @@ sum_loop_again t c =
           i.result.wrong i.result.refusal i.result.value i.result.next i.ensures.reads i.ensures.on c.before.before.sooner-refusal.result c.before.plus-value.result c.before.before.sooner-refusal.ensures c.before.plus-value.ensures,
     )
 
-pub +factor-product-sum-spec : {M : Type 1} → statement M
-+factor-product-sum-spec = close μ-factor μ-product μ-sum (λ t. factor_lts.spec (factor_claims t)
+pub +factor_product_sum_spec : {M : Type 1} → statement M
++factor_product_sum_spec = close μ-factor μ-product μ-sum (λ t. factor_lts.spec (factor_claims t)
     (factor_held t)
     factor.Post
     (λ c κs. search rules)
@@ -158,16 +158,15 @@ pub +factor-product-sum-spec : {M : Type 1} → statement M
     let a = n.before.before.args in
     let h = n.number-number.ensures.1 c.before.if-number.true in
     record { on = omega arith; within = h.1; reads = a_number a.x a.line.now a.at a.depth n.number-number.result.word c.value.result (sym n.number-number.ensures.0 ∙ c.before.if-number.true) h.0 c.value.ensures })
-    (λ c. search rules)
     (λ c κs. search rules)
     (λ c.
-    let a = c.before.before.before.before.before.before.args in
+    let a = c.before.before.before.before.before.before.before.args in
     record { fits = omega (arith, letter_fits a.line.now a.at (sym c.before.starts.ensures ∙ c.if-starts.true)) })
     (λ c.
-    let n = c.before.before.before.before in
+    let n = c.before.before.before.before.before in
     let a = n.before.before.args in
     let h = sym c.before.starts.ensures ∙ c.if-starts.true in
-    record { on = omega arith; within = letter_fits a.line.now a.at h; reads = a_letter a.x a.line.now a.at a.depth (sym n.number-number.ensures.0 ∙ c.before.before.before.if-number.false) h })
+    record { on = omega arith; within = letter_fits a.line.now a.at h; reads = a_letter a.x a.line.now a.at a.depth (sym n.number-number.ensures.0 ∙ c.before.before.before.before.if-number.false) h })
     (λ c κs. search rules)
     (λ c κs. search rules)
     (λ c.
@@ -183,18 +182,18 @@ pub +factor-product-sum-spec : {M : Type 1} → statement M
     factor_none t e c.wrong-then-depth-lt1.result c.wrong-then-depth-lt1.ensures (no_depth (drop a.at (factor_line t e)) a.depth (factor_digits t e) (factor_letter t e) c.before.if-depth-lt1.true))
     (λ c.
     let o = c.before.before.before.before.opening-open in
-    let s = c.before.before.before.before.before.before.before.before.before.before.before in
+    let s = c.before.before.before.before.before.before.before.before.before.before.before.before in
     let line = s.args.line.now in
     record { fits = omega (arith, opening_fits line s.args.at (opened names (drop s.args.at line)) o.result.op o.result.len o.ensures s.requires.1) })
     (λ c κs.
     let o = c.before.before.before.before.opening-open in
-    let s = c.before.before.before.before.before.before.before.before.before.before.before in
+    let s = c.before.before.before.before.before.before.before.before.before.before.before.before in
     let line = s.args.line.now in
     (omega (arith, s.requires.0, c.before.if-depth-lt1.false), opening_fits line s.args.at (opened names (drop s.args.at line)) o.result.op o.result.len o.ensures s.requires.1))
     (λ c κs. c.sum-inner.ensures.within)
     (λ c κs. search rules)
     (λ c.
-    let v = c.before.before.operator-op in
+    let v = c.before.before.operator in
     let u = c.before.before.before.sum-inner in
     let o = c.before.before.before.before.before.before.before.before.opening-open in
     let e = c.before.before.before.before.before.before.before.before.before in
@@ -202,7 +201,7 @@ pub +factor-product-sum-spec : {M : Type 1} → statement M
     factor_none t e c.wrong-then-operator-lt1.result c.wrong-then-operator-lt1.ensures
     (unclosed a.x (factor_line t e) u.result.wrong u.result.refusal u.result.value u.result.next a.at a.depth o.result.op o.result.len (factor_digits t e) (factor_letter t e) o.ensures
     c.before.before.before.before.before.before.if-open-lt1.false c.before.before.before.before.before.if-depth-lt1.false u.ensures.reads (sym v.ensures.1 ∙ (let z : v.result ≡ 0 = omega (arith, c.before.if-operator-lt1.true) in z))))
-    (λ c. record { fits = omega (arith, c.before.operator-op.ensures.0, c.if-operator-lt1.false) })
+    (λ c. record { fits = omega (arith, c.before.operator.ensures.0, c.if-operator-lt1.false) })
     (λ c κs.
     let o = c.before.before.before.before.before.before.before.opening-open in
     let e = c.before.before.before.before.before.before.before.before in
@@ -210,7 +209,7 @@ pub +factor-product-sum-spec : {M : Type 1} → statement M
     opening_lt (factor_line t e) s.args.at (opened names (drop s.args.at (factor_line t e))) o.result.op o.result.len o.ensures c.before.before.before.before.before.if-open-lt1.false)
     (λ c.
     let r = c.applied.result in
-    let v = c.before.before.operator-op in
+    let v = c.before.before.operator in
     let u = c.before.before.before.sum-inner in
     let o = c.before.before.before.before.before.before.before.before.opening-open in
     let e = c.before.before.before.before.before.before.before.before.before in
