@@ -1,5 +1,7 @@
 // The exported calls, for C and Rust. The static library is built from it; no crate stands on it. Those
 // of the engine without floats are in engine.rt, and those of the studio edition in studio.rt.
+#![tactic(auto)]
+
 ghost use Rattle.std.specs.Prelude.{◌≡◌};
 ghost use Rattle.std.specs.Float.{binary32};
 ghost use Rattle.std.specs.Float.Ieee.{of_bits};

@@ -1,6 +1,8 @@
 // Exported calls for the comparison alone: the casts and helpers of `float`, which the crate keeps
 // to itself and no frame reaches, and raw powi's count. Those of the studio edition are in studio.rt.
 // No crate stands on it.
+#![tactic(auto)]
+
 ghost use Rattle.std.specs.Prelude.{◌≡◌, ◌+◌, ◌*◌, ◌%◌, ◌^◌, pos, get_or};
 ghost use Rattle.std.specs.Float.{binary32};
 ghost use Rattle.std.specs.Float.Ieee.{of_bits, to_bits, of_int, to_signed};

@@ -5,5 +5,5 @@ use Rattle.dampmeadow.proofs.dampmeadow_floor_marked.Tie as tie
 
 pub dampmeadow_floor_marked_spec : {M : Type 1} → statement M
 dampmeadow_floor_marked_spec =
-    let met = tie.spec (λ c κs. search rules) (λ c κs. search rules) (λ c. rw (c.with-mark.ensures, c.before.floor-marked.ensures.0, c.before.floor-marked.ensures.1.1)) in
+    let met = tie.spec (λ c κs. search rules) (λ c κs. search rules) (λ c. rw (c.with_mark.ensures, c.before.floor_marked.ensures.0, c.before.floor_marked.ensures.1.1)) in
     tie.close met

@@ -8,5 +8,5 @@ dampmeadow_recipe_spec =
     let met = tie.spec
     (λ c κs. search rules)
     (λ c κs. search rules)
-    (λ c. record { answer = c.before.answer.result; answers = c.before.answer.ensures; words = c.of-answer.ensures }) in
+    (λ c. record { answer = c.before.answer.result; answers = c.before.answer.ensures; words = c.of_answer.ensures }) in
     tie.close met

@@ -16,6 +16,6 @@ probe_cast_marked_spec =
     (λ c. search rules)
     (λ c. search rules)
     (λ c.
-    let cast = c.before.before.before.cast-marked in
-    rw (c.before.before.number.ensures, cast.ensures.1.0, c.bits-of-i32.ensures, to_z-of_z {w = w32} {z = cast.result.value} (record { sfits = c.before.struct_told.given.0.1 }), cast.ensures.0)) in
+    let cast = c.before.before.before.cast_marked-casted in
+    rw (c.before.before.number.ensures, cast.ensures.1.0, c.bits_of_i32.ensures, to_z-of_z {w = w32} {z = cast.result.value} (record { sfits = c.before.struct_told-1.given.0.1 }), cast.ensures.0)) in
     tie.close met

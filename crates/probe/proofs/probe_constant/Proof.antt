@@ -22,4 +22,4 @@ probe_constant_spec =
     (λ c. search rules)
     (λ c. search rules)
     (λ c. ap (λ (n : ℕ). get_or (take 17 constants ++ (n ∷ [])) c.before.before.args.place 0) (turn c.before))
-    (λ c. sym (get_or-eq_default constants 0 c.if1.false)))
+    (λ c. sym (get_or-eq_default constants 0 c.if-place-lt18.false)))

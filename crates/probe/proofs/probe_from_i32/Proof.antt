@@ -12,4 +12,4 @@ probe_from_i32_spec =
     (tie.spec
     (λ c κs. search rules)
     (λ c κs. search rules)
-    (λ c. c.of.ensures ∙ ap (to_bits binary32) (c.before.from-i32.ensures ∙ ap (of_int binary32) (to_z-of_z c.before.before.ranges.n))))
+    (λ c. c.of.ensures ∙ ap (to_bits binary32) (c.before.from_i32.ensures ∙ ap (of_int binary32) (to_z-of_z c.before.before.ranges.n))))

@@ -6,4 +6,4 @@ use Rattle.probe.proofs.probe_from_u32.Statement.{statement}
 use Rattle.probe.proofs.probe_from_u32.Tie as tie
 
 pub probe_from_u32_spec : {M : Type 1} → statement M
-probe_from_u32_spec = tie.close (tie.spec (λ c κs. search rules) (λ c κs. search rules) (λ c. c.of.ensures ∙ ap (to_bits binary32) c.before.from-u32.ensures))
+probe_from_u32_spec = tie.close (tie.spec (λ c κs. search rules) (λ c κs. search rules) (λ c. c.of.ensures ∙ ap (to_bits binary32) c.before.from_u32.ensures))

@@ -10,5 +10,5 @@ pub probe_powi_products_spec : {M : Type 1} → statement M
 probe_powi_products_spec =
     let met = tie.spec
     (λ c κs. search rules)
-    (λ c. let first = c.before in c.powi-counted.ensures.1 ∙ ap (products_of first.args.a) (to_z-of_z first.ranges.n)) in
+    (λ c. let first = c.before in c.powi_counted.ensures.1 ∙ ap (products_of first.args.a) (to_z-of_z first.ranges.n)) in
     tie.close met

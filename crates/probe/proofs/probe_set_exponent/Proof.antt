@@ -16,4 +16,4 @@ probe_set_exponent_spec =
     tie.close
     (tie.spec
     (λ c κs. search rules)
-    (λ c. c.set-exponent.ensures ∙ ap (λ (z : ℤ). set_exponent_word binary32 c.before.args.a ((of_z w32 z + 127) % 2 ^ 32)) (to_z-of_z c.before.ranges.n)))
+    (λ c. c.set_exponent.ensures ∙ ap (λ (z : ℤ). set_exponent_word binary32 c.before.args.a ((of_z w32 z + 127) % 2 ^ 32)) (to_z-of_z c.before.ranges.n)))

@@ -10,6 +10,6 @@ dampmeadow_columns_spec =
     let met = tie.spec
     (λ c κs. search rules)
     (λ c.
-    let e = c.span.ensures in
+    let e = c.span-part.ensures in
     (ap (λ (p : Part). p.retouched) e, (ap (λ (p : Part). p.from) e, ap (λ (p : Part). p.to) e))) in
     tie.close met

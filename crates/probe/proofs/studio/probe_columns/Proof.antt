@@ -13,6 +13,6 @@ probe_columns_spec =
     (λ c κs. search rules)
     (λ c. search rules)
     (λ c. search rules)
-    (λ c. rw c.before.before.columns.ensures.0)
-    (λ c. sym (ap (λ (l : List ℕ). get_or l c.before.before.before.before.args.place 0) (sym c.before.columns.ensures.0) ∙ get_or-eq_default c.before.columns.result.now 0 c.if1.false)) in
+    (λ c. rw c.before.before.columns-part.ensures.0)
+    (λ c. sym (ap (λ (l : List ℕ). get_or l c.before.before.before.before.args.place 0) (sym c.before.columns-part.ensures.0) ∙ get_or-eq_default c.before.columns-part.result.now 0 c.if-place-part.false)) in
     tie.close met

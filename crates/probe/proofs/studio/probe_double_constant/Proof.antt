@@ -12,5 +12,5 @@ probe_double_constant_spec =
     (λ c. search rules)
     (λ c. search rules)
     (λ c. refl)
-    (λ c. sym (get_or-eq_default double_constants 0 c.if1.false)) in
+    (λ c. sym (get_or-eq_default double_constants 0 c.if-place-lt11.false)) in
     tie.close met
