@@ -4,9 +4,9 @@ use mathlib.Core.Bool.{false≢true}
 use borrow.Author.Tests.{lt-leb}
 use lib.Dec.{leb-zero}
 use lib.IntN.{sub_ℕ, +ℤ_idl}
-use lib.Signed.{le_z, non_neg, mag}
+use lib.Signed.{le_z, non_neg}
 use lib.Ieee.{minus}
-use mir.Facts.{to_z_pos, sfits_to_z}
+use mir.Facts.{to_z_pos}
 
 -- an integer written as its word and read back
 abbrev back : ℤ → ℤ

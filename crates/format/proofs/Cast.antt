@@ -1,7 +1,7 @@
 -- A word's cast to an integer, by its units: the whole part with the word's sign, held within the range; and the two
 -- ranges of a 32-bit word's exponent field that its cast to a 32-bit integer goes by. Assumes nothing.
-use Prim.Native.Nat.{ℕ, zero, suc, ◌+◌, ◌-◌, ◌*◌, ◌/◌, ◌%◌, ◌^◌, ◌<◌, ◌≤◌, min}
-use native.Mathlib.Nat.{mul_assoc, mod-lt, div-eq_of_lt, lt_of_lt_of_le, le_trans, mul-lt-mul_of_pos_right, mul-le-mul_left, mul-le-mul_right, div-lt_iff_lt-mul, eq-or-lt_of_le}
+use Prim.Native.Nat.{ℕ, zero, suc, ◌+◌, ◌-◌, ◌*◌, ◌/◌, ◌^◌, ◌<◌, ◌≤◌, min}
+use native.Mathlib.Nat.{mul_assoc, mod-lt, div-eq_of_lt, lt_of_lt_of_le, le_trans, mul-le-mul_left, mul-le-mul_right, div-lt_iff_lt-mul, eq-or-lt_of_le}
 use native.Mathlib.Omega.{arith}
 use mathlib.Core.Path.{◌≡◌, refl, sym, ap, subst, ◌∙◌}
 use mathlib.Core.Logic.{◌⊎◌, inl, inr}
@@ -10,7 +10,7 @@ use lib.IntN.{ℤ, pos, negsuc, neg_ℤ}
 use borrow.Author.Tests.{ltb-true, ltb-false}
 use lib.Dec.{ltb, lit<, lit≤}
 use lib.Pow.{pow_pos, pow-add, pow_mono}
-use lib.Ieee.{Format, binary32, Float, nan, inf, fin, up, down, low, of_bits, nan_bits, to_signed}
+use lib.Ieee.{Format, binary32, Float, nan, inf, fin, low, of_bits, nan_bits, to_signed}
 use lib.Ieee.Exact.{HasValue}
 use lib.Ieee.Nearest.{div_same, div_mono}
 use Rattle.format.specs.Fields.{negative, exponent, fraction}

@@ -1,19 +1,18 @@
 -- What raw floor gives where the cast that it makes is clipped or of a NaN: the end of the range, as the float that it rounds to, or +0.
 -- Assumes nothing.
 use Prim.Native.Nat.{ℕ, suc, ◌+◌, ◌*◌, ◌^◌, ◌≤◌}
-use native.Mathlib.Nat.{mul-one, le_trans, lt_of_lt_of_le}
-use mathlib.Core.Path.{◌≡◌, refl, sym, ap, subst, ◌∙◌}
+use native.Mathlib.Nat.{mul-one, lt_of_lt_of_le}
+use mathlib.Core.Path.{◌≡◌, refl, ap, subst, ◌∙◌}
 use mathlib.Core.Bool.{Bool, true, false, cond}
 use borrow.Author.Tests.{lt-ltb, le-ltb, eqb-true}
-use lib.Dec.{lit<, lit≤}
-use lib.IntN.{ℤ}
+use lib.Dec.{lit<}
 use lib.Pow.{pow_pos}
-use lib.Ieee.{binary32, Float, nan, inf, round, add, sub, lt, below, of_bits, to_bits, of_int, to_signed}
+use lib.Ieee.{binary32, Float, inf, round, add, sub, lt, below, of_bits, to_bits, of_int, to_signed}
 use lib.Ieee.Exact.{HasValue}
-use Rattle.format.specs.Fields.{negative, sign_bit, one_word}
+use Rattle.format.specs.Fields.{sign_bit, one_word}
 use Rattle.format.specs.Value.{units, Finite}
 use Rattle.format.specs.Classes.{is_endless}
-use Rattle.format.specs.Whole.{through_int, floor_value, floor_word}
+use Rattle.format.specs.Whole.{floor_word}
 use Rattle.format.specs.Cast.{last_size, signed, IsClipped, IsNothing}
 use Rattle.format.proofs.Classes.{finite_of}
 use Rattle.format.proofs.Nan.{nan_read, inf_read}

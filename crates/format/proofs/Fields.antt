@@ -8,7 +8,6 @@ use mathlib.Core.Bool.{Bool, true, false}
 use borrow.Author.Tests.{leb-true, leb-false, le-leb, lt-leb}
 use lib.Arith.{digits_lt, digits_div, digits_mod}
 use lib.Pow.{pow_pos}
-use lib.Dec.{leb}
 use lib.Ieee.{Format, prec, hid, ones, top}
 use Rattle.format.specs.Fields.{negative, magnitude, exponent, fraction, sign_bit}
 

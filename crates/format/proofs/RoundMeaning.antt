@@ -1,28 +1,28 @@
 -- round is the nearest whole number, halves away from 0, for |x| under 2 ^ 23 at binary32 but for the magnitude 3effffff, where the sum
 -- with a half rounds up to 1; a zero is +0. Assumes nothing.
-use Prim.Native.Nat.{ℕ, zero, suc, ◌+◌, ◌-◌, ◌*◌, ◌/◌, ◌%◌, ◌^◌, ◌<◌, ◌≤◌, suc-le-suc, compare}
+use Prim.Native.Nat.{ℕ, zero, suc, ◌+◌, ◌-◌, ◌*◌, ◌/◌, ◌^◌, ◌<◌, ◌≤◌, suc-le-suc, compare}
 use native.Mathlib.Numerals.{add-one}
-use native.Mathlib.Nat.{pow-succ', le-add_right, le-add_left, div-eq_of_lt, div-le_self, mod-one, div-one, mod-lt, mul_assoc, mul_comm, mul-one, one-mul, add-mul, suc-mul, zero-mul, mul-pos, mul-div_cancel, mul-mod_left, div-mul-le_self, div-lt_iff_lt-mul, div-eq_of_lt-le, le-div_iff_mul-le, le_of_mul-le-mul_right, eq_of_mul-eq-mul_right, mul-le-mul_left, mul-le-mul_right, mul-lt-mul_of_pos_right, le_antisymm, le_trans, le_of_lt, lt_irrefl, lt_of_not-le, lt_of_lt_of_le, lt_of_le_of_lt, lt-suc_self, zero-lt-suc, le_of_eq}
+use native.Mathlib.Nat.{pow-succ', le-add_right, le-add_left, div-eq_of_lt, div-le_self, mod-one, div-one, mul_assoc, mul_comm, mul-one, one-mul, add-mul, suc-mul, mul-pos, mul-div_cancel, mul-mod_left, div-mul-le_self, div-lt_iff_lt-mul, div-eq_of_lt-le, le-div_iff_mul-le, eq_of_mul-eq-mul_right, mul-le-mul_left, mul-le-mul_right, mul-lt-mul_of_pos_right, le_antisymm, le_trans, le_of_lt, lt_irrefl, lt_of_not-le, lt_of_lt_of_le, lt_of_le_of_lt, lt-suc_self, zero-lt-suc, le_of_eq}
 use native.Mathlib.Omega.{arith}
 use mathlib.Core.Path.{◌≡◌, refl, sym, ap, subst, ◌∙◌}
-use mathlib.Core.Bool.{Bool, true, false, cond}
+use mathlib.Core.Bool.{Bool, true, false}
 use borrow.Author.Tests.{ltb-true, ltb-false}
 use lib.Dec.{ltb, lit<, lit≤}
 use lib.Pow.{pow_pos, pow-add, pow_mono, shl_lt}
-use lib.Ieee.{Format, binary32, Float, prec, emax, low, hid, ones, size, nearest, units as units_of, round, add, of_bits, of_int, to_signed}
+use lib.Ieee.{Format, binary32, Float, prec, emax, low, size, nearest, units as units_of, round, add, of_bits, to_signed}
 use lib.Ieee.Digits.{size-lt, size-le}
 use lib.Ieee.Exact.{HasValue, units_val}
 use lib.Ieee.Fits.{core, round_is, of_int-fits}
 use lib.Ieee.Nearest.{closest, closest_mono, closest_same, div_same}
 use lib.Ieee.Back.{round_whole}
-use Rattle.format.specs.Fields.{negative, magnitude, exponent, fraction}
+use Rattle.format.specs.Fields.{negative, exponent, fraction}
 use Rattle.format.specs.Sign.{copysign_word}
-use Rattle.format.specs.Value.{units_at, units, Finite}
+use Rattle.format.specs.Value.{units_at, units}
 use Rattle.format.specs.Whole.{half_word, through_int, round_word}
 use Rattle.format.specs.Meaning.{IsRound, Under23}
 use Rattle.format.proofs.Cast.{held, value_cast}
 use Rattle.format.proofs.Fields.{fraction_lt, two_fields}
-use Rattle.format.proofs.FloorMeaning.{Exact, through_positive, through_negative, nothing_through}
+use Rattle.format.proofs.FloorMeaning.{through_positive, through_negative, nothing_through}
 use Rattle.format.proofs.PartsMeaning.{full}
 use Rattle.format.proofs.Sign.{copysign_is}
 use Rattle.format.proofs.Value.{word_value, value_word, add_values}

@@ -1,11 +1,11 @@
 -- The floor of any value at all is a value of the format and no NaN. Assumes nothing.
 use Prim.Native.Nat.{ℕ, zero, suc, ◌+◌, ◌-◌, ◌*◌, ◌^◌}
-use mathlib.Core.Path.{◌≡◌, refl, sym, ap, ◌∙◌}
+use mathlib.Core.Path.{◌≡◌, refl, ap, ◌∙◌}
 use mathlib.Core.Bool.{Bool, true, false, cond, ◌&&◌, beq, true≢false}
 use lib.Dec.{T, ltb}
 use lib.IntN.{ℤ, pos, negsuc}
 use lib.Ieee.{Format, binary32, binary64, Float, nan, inf, fin, up, down, prec, emax, low, odd, units, round, neg, sum, add, sub, lt, of_bits, of_int, to_signed, is_nan, fits}
-use lib.Ieee.Fits.{core, round_is, cond-fits, of_int-fits, sub-fits}
+use lib.Ieee.Fits.{round_is, cond-fits, of_int-fits, sub-fits}
 use Rattle.format.specs.Fields.{one_word}
 use Rattle.format.specs.Whole.{through_int, floor_value}
 

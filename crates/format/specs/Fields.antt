@@ -1,6 +1,6 @@
 -- A word of a binary format by its fields: the sign bit, then the exponent field, then the fraction. Definitions only.
 -- `top f` is the weight of the sign bit, `hid f` that of the exponent field, `ones f` the field of an infinity or a NaN, `emax f` the bias.
-use Rattle.std.specs.Prelude.{ℕ, ◌+◌, ◌*◌, ◌/◌, ◌%◌, ◌^◌, Bool, cond, leb}
+use Rattle.std.specs.Prelude.{ℕ, ◌+◌, ◌*◌, ◌/◌, ◌%◌, Bool, cond, leb}
 use mir.Val.{bits, width_of}
 use Rattle.std.specs.Float.{Format}
 use Rattle.std.specs.Float.Ieee.{hid, ones, top, emax}

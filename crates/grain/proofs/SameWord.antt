@@ -1,6 +1,6 @@
 -- If every sample that a history had taken is the same word, the sum of squared deviations is +0, and so compares equal to zero: the mean is
 -- that word's number from the first on. Assumes nothing.
-use Prim.Native.Nat.{ℕ, zero, suc, ◌+◌, ◌<◌}
+use Prim.Native.Nat.{ℕ, zero, suc, ◌<◌}
 use native.Mathlib.Numerals.{add-one}
 use native.Mathlib.Omega.{arith}
 use mathlib.Core.Path.{◌≡◌, refl}

@@ -29,7 +29,7 @@ use Rattle.float.specs.Powf.{product_word}
 use Rattle.float.specs.DivEuclid.{quotient_word}
 use Rattle.guard.specs.declared.gate.Gate.{Gate}
 use Rattle.guard.specs.Operations.{op_exp, op_powf, op_atan2, op_hypot, op_tan, op_rem_euclid, op_div_euclid}
-use Rattle.guard.specs.Gates.{low, high, other, unbounded, gates, gate_of, place, passes, larger, judged_size, judged}
+use Rattle.guard.specs.Gates.{low, high, other, unbounded, gates, gate_of, place, passes, judged_size, judged}
 use Rattle.guard.proofs.Open.{both}
 
 -- ---- two tests that agree

@@ -2,13 +2,13 @@
 -- input, one to a line and in order, whatever chunks and spaces were lent. Assumes nothing.
 use Prim.Native.Nat.{ℕ, ◌≤◌}
 use mathlib.Core.Path.{◌≡◌, refl, sym, ap, ◌∙◌}
-use mathlib.Core.List.{List, [], ◌∷◌, ◌++◌}
+use mathlib.Core.List.{List, [], ◌++◌}
 use lib.ListN.{length, take}
 use Rattle.frame.specs.Frame.{answer_bytes}
 use Rattle.lines.specs.declared.Lines.{Lines}
 use Rattle.lines.specs.declared.Fed.{Fed}
-use Rattle.lines.specs.Lines.{lines_of, answers, answers_of, completed, pending, last_line}
-use Rattle.lines.specs.Held.{fresh, Holds, after, Feeds, Finishes}
+use Rattle.lines.specs.Lines.{answers, answers_of, completed, pending, last_line}
+use Rattle.lines.specs.Held.{fresh, Holds, Feeds, Finishes}
 use Rattle.lines.proofs.Cutting.{pending_cut, answers_append, answers_cut, lines_of_is}
 use Rattle.lines.proofs.Holding.{fresh_holds, after_holds, from_line}
 use Rattle.lines.proofs.Front.{answers_part, holds_part}

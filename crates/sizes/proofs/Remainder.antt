@@ -9,7 +9,7 @@ use mathlib.Core.Bool.{Bool, true, false, cond, ◌||◌, true≢false}
 use borrow.Author.Tests.{le-ltb, lt-ltb, le-leb, lt-leb, leb-true, leb-false, eqb-true}
 use lib.Dec.{T, leb, eqb, lit<}
 use lib.Pow.{pow_pos}
-use lib.Ieee.{Format, Float, nan, inf, fin, binary32, up, down, low, top, fits, round, sum, add, rem, of_bits, to_bits}
+use lib.Ieee.{Format, Float, nan, inf, fin, binary32, up, down, low, top, fits, round, sum, add, rem, to_bits}
 use lib.Ieee.Bits.{of_bits-fits, of_bits-to_bits, to_bits-lt}
 use lib.Ieee.Fits.{add-fits, rem-fits, down_pos}
 use lib.Ieee.Positive.{first_pos, through}

@@ -8,7 +8,7 @@ use lib.Arith.{lt_of_le-ne}
 use lib.Dec.{lit<, lit≤}
 use lib.Pow.{pow_pos, pow-add}
 use lib.Count.{count_leading_zeros}
-use lib.Ieee.{binary32, low, unlike}
+use lib.Ieee.{binary32, unlike}
 use Rattle.format.specs.Fields.{negative, magnitude, sign_bit}
 use Rattle.format.specs.Value.{units, Finite}
 use Rattle.soft.specs.Words.{div_word}

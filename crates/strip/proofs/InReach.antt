@@ -1,6 +1,6 @@
 -- A place that is in reach of the steps alone: nothing is refused there, and what stands there is the kernel's word. And a place of any words: its
 -- refusal, and the word beside it. Assumes nothing.
-use Prim.Native.Nat.{ℕ, suc, ◌-◌, ◌^◌, ◌≤◌, ◌<◌}
+use Prim.Native.Nat.{ℕ, ◌-◌, ◌^◌, ◌≤◌, ◌<◌}
 use native.Mathlib.Nat.{le_of_lt, mod-eq_of_lt, suc-ne-zero, suc_inj}
 use native.Mathlib.Omega.{arith}
 use mathlib.Core.Path.{◌≡◌, refl, sym, ap, subst, ◌∙◌}

@@ -1,6 +1,5 @@
 -- `frame::digit` meets its contract. Assumes nothing.
 use borrow.Author.Rules.{rules}
-use borrow.Author.Tests.{not-true, not-false}
 use mathlib.Core.Path.{sym, ◌∙◌}
 use Rattle.frame.proofs.digit.Statement.{statement}
 use Rattle.frame.proofs.digit.Tie as tie

@@ -1,5 +1,5 @@
 -- `float::F32::abs` meets its contract: the mask leaves the magnitude. Assumes nothing.
-use Rattle.std.proofs.Common.{◌≡◌, ℕ, false, sym, subst}
+use Rattle.std.proofs.Common.{false, sym, subst}
 use lib.Ieee.{binary32}
 use Rattle.format.specs.Sign.{SignSet}
 use Rattle.format.proofs.Masks.{clear_sign}

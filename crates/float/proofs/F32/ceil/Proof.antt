@@ -1,6 +1,5 @@
 -- `float::F32::ceil` meets its contract: a turned sign bit is a negated number, before the floor and after it. Assumes nothing.
-use Rattle.std.proofs.Common.{◌≡◌, ℕ, sym, ap, ◌∙◌, rules}
-use lib.Bits.{bit_xor}
+use Rattle.std.proofs.Common.{◌≡◌, sym, ap, ◌∙◌, rules}
 use lib.Ieee.{Float, binary32, neg, of_bits, to_bits}
 use Rattle.format.specs.Sign.{turned_word}
 use Rattle.format.specs.Whole.{floor_value}

@@ -1,5 +1,5 @@
 -- `float::F32::invsqrt` meets its contract: the subtraction is the definition's, and its bounds are the format's laws. Assumes nothing.
-use Rattle.std.proofs.Common.{◌≡◌, sym, subst, rules}
+use Rattle.std.proofs.Common.{sym, subst, rules}
 use Rattle.format.specs.Estimates.{InvsqrtBound, InvsqrtTight}
 use Rattle.format.proofs.Invsqrt.{invsqrt_bound, invsqrt_tight}
 use Rattle.float.proofs.F32.invsqrt.Statement.{statement}

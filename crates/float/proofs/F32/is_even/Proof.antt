@@ -1,5 +1,5 @@
 -- `float::F32::is_even` meets its contract: the remainder of the cast is 0 just where its magnitude is even. Assumes nothing.
-use Rattle.std.proofs.Common.{◌≡◌, ℕ, zero, suc, ◌/◌, ◌%◌, ◌^◌, ◌<◌, ◌≤◌, eqb, ℤ, pos, negsuc, neg_ℤ, nat_abs, sym, refl, ap, ◌∙◌, subst, arith, lit<, to_z-of_z, w32, SFits, to_z, of_z, rules, le-leb}
+use Rattle.std.proofs.Common.{◌≡◌, ℕ, zero, suc, ◌/◌, ◌%◌, ◌<◌, ◌≤◌, eqb, ℤ, pos, negsuc, neg_ℤ, nat_abs, sym, refl, ap, ◌∙◌, subst, arith, lit<, to_z-of_z, w32, SFits, to_z, of_z, rules, le-leb}
 use borrow.Author.Tests.{lt-leb}
 use lib.Signed.{quot_z, rem_z, mag}
 use Rattle.float.proofs.F32.is_even.Statement.{statement}

@@ -1,5 +1,5 @@
 -- `float::F32::is_nan` meets its contract: past the sign, a NaN's word is above the infinity's. Assumes nothing.
-use Rattle.std.proofs.Common.{◌≡◌, ℕ, ltb, sym, ap, ◌∙◌}
+use Rattle.std.proofs.Common.{ltb, sym, ap, ◌∙◌}
 use lib.Ieee.{binary32}
 use lib.Ieee.Bits.{nan_bits_above}
 use Rattle.format.proofs.Masks.{clear_sign}

@@ -1,6 +1,5 @@
 -- `float::F32::powf` meets its contract: each return is the case of the definition that the tests before it pick. Assumes nothing.
 use Rattle.std.proofs.Common.{◌≡◌, ℕ, Bool, true, false, cond, sym, refl, ap, ◌∙◌, rules}
-use borrow.Author.Tests.{not-true, not-false}
 use lib.Ieee.{Float, binary32, le, neg, of_bits, to_bits}
 use Rattle.format.specs.Fields.{magnitude, nan_word}
 use Rattle.format.specs.Exponent.{is_integer_word, is_even_word}

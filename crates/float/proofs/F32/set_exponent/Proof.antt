@@ -1,5 +1,5 @@
 -- `float::F32::set_exponent` meets its contract: the field that is moved up and or-ed in is the definition's. Assumes nothing.
-use Rattle.std.proofs.Common.{ℕ, ◌+◌, ◌*◌, ◌%◌, ◌^◌, ap, ◌∙◌, to_z-of_z, w32, of_z, rules}
+use Rattle.std.proofs.Common.{ℕ, ◌+◌, ◌%◌, ◌^◌, ap, ◌∙◌, to_z-of_z, w32, of_z, rules}
 use lib.Bits.{bit_and, bit_or}
 use lib.Ieee.{binary32}
 use Rattle.format.specs.Exponent.{moved}

@@ -1,5 +1,5 @@
 -- `float::F32::signum` meets its contract: each arm is the case of the definition that its test picks. Assumes nothing.
-use Rattle.std.proofs.Common.{◌≡◌, sym, ◌∙◌, rules}
+use Rattle.std.proofs.Common.{sym, ◌∙◌, rules}
 use Rattle.float.proofs.F32.signum.Statement.{statement}
 use Rattle.float.proofs.F32.signum.Tie as tie
 

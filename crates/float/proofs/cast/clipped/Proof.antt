@@ -1,5 +1,5 @@
 -- `float::cast::clipped` meets its contract: `format`'s `proofs/Cast.antt` says what the cast is past the range. Assumes nothing.
-use Rattle.std.proofs.Common.{◌≡◌, sym, ap, ◌∙◌, rules}
+use Rattle.std.proofs.Common.{sym, ap, ◌∙◌, rules}
 use Rattle.format.proofs.Cast.{Casts, nan_casts, clipped, past_casts}
 use Rattle.float.proofs.cast.clipped.Statement.{statement}
 use Rattle.float.proofs.cast.clipped.Tie as tie

@@ -1,6 +1,6 @@
 -- `float::cast::from_i32` meets its contract: up to 2 ^ 24 either way the language's own cast loses nothing, and beyond, the callee's
 -- contract is this one's. Assumes nothing.
-use Rattle.std.proofs.Common.{◌≡◌, ◌-◌, ◌^◌, true, T, ℤ, pos, negsuc, sym, ap, ◌∙◌, subst, arith, le→leb, lt→ltb, to_z-of_z, rules, ltb-true}
+use Rattle.std.proofs.Common.{◌≡◌, ◌-◌, ◌^◌, true, T, ℤ, pos, negsuc, ap, ◌∙◌, arith, le→leb, lt→ltb, to_z-of_z, rules, ltb-true}
 use lib.Signed.{lt_z}
 use lib.Ieee.{binary32, of_int, in_float}
 use Rattle.float.proofs.cast.from_i32.Statement.{statement}

@@ -1,6 +1,6 @@
 -- `float::exp::saturating_sum` meets its contract: 64 bits hold a sum of two 32-bit integers, and 32 bits hold what passes the tests.
 -- Assumes nothing.
-use Rattle.std.proofs.Common.{◌≡◌, ℕ, suc, ◌+◌, ◌-◌, ◌^◌, ◌<◌, ◌≤◌, Bool, true, false, cond, ltb, ℤ, pos, negsuc, ◌+ℤ◌, sym, refl, ◌∙◌, subst, arith, to_z-of_z, w32, w64, SFits, to_z, of_z, ltb-false}
+use Rattle.std.proofs.Common.{◌≡◌, ℕ, suc, ◌-◌, ◌^◌, ◌<◌, ◌≤◌, Bool, true, false, cond, ltb, ℤ, pos, negsuc, ◌+ℤ◌, sym, refl, ◌∙◌, subst, arith, to_z-of_z, w32, w64, SFits, to_z, of_z, ltb-false}
 use lib.Signed.{mag, lt_z}
 use mir.Facts.{sfits_widen}
 use Rattle.float.specs.Exp.{clipped}

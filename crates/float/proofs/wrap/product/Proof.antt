@@ -1,5 +1,5 @@
 -- `float::wrap::product` meets its contract: a product of two words fits two words. Assumes nothing.
-use Rattle.std.proofs.Common.{◌*◌, ◌^◌, ◌<◌, lt_of_le_of_lt, le_of_lt, mul-le-mul_left, mul-lt-mul_of_pos_right, lit<, rules}
+use Rattle.std.proofs.Common.{◌^◌, lt_of_le_of_lt, le_of_lt, mul-le-mul_left, mul-lt-mul_of_pos_right, lit<, rules}
 use Rattle.float.proofs.wrap.product.Statement.{statement}
 use Rattle.float.proofs.wrap.product.Tie as tie
 

@@ -2,7 +2,6 @@
 use borrow.Author.Rules.{rules}
 use Prim.Native.Nat.{ℕ}
 use mathlib.Core.Path.{◌≡◌, sym, ◌∙◌}
-use borrow.Author.Tests.{not-true, not-false}
 use lib.ListN.{drop}
 use Rattle.format.specs.First.{first_of}
 use Rattle.guard.specs.Gates.{passes, judged}

@@ -1,6 +1,5 @@
 -- `strip::blocks::bit_block` meets its contract: places that are not all answered so are filled again. Assumes nothing.
 use borrow.Author.Rules.{rules}
-use borrow.Author.Tests.{not-false}
 use mathlib.Core.Path.{◌∙◌}
 use Rattle.strip.proofs.InReach.{bits_have_blocks}
 use Rattle.strip.proofs.blocks.bit_block.Statement.{statement}

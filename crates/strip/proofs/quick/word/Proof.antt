@@ -1,5 +1,4 @@
 -- `strip::quick::word` meets its contract: in reach the single call answers with the kernel's word. Assumes nothing.
-use borrow.Author.Rules.{rules}
 use Prim.Native.Nat.{ℕ, ◌<◌}
 use native.Mathlib.Nat.{le_trans}
 use native.Mathlib.Omega.{arith}
