@@ -12,39 +12,31 @@ build() {
     say "proving and building the program, which takes some minutes the first time"
     log=$here/target/$1.log
     begun=$here/target/$1.begun
-    mkdir -p "$here/target" && : >"$begun" || stop "cannot write to $here/target"
-    (cd "$here" && rt check "$1" </dev/null) 2>&1 | tee "$log" | sed -un "s/^rt: \(.* proved ([0-9]* s)\)$/$name: \1/p" >&2
-    [ "${PIPESTATUS[0]}" -eq 0 ] || { tail -n 20 "$log" >&2; stop "the program was not built"; }
-    # where nothing that counts had changed, rt leaves the program's time as it was
-    touch -r "$begun" "$program"
+    mkdir -p "$here/target/bin" && : >"$begun" || stop "cannot write to $here/target"
+    # rt also runs what it has built, here over no input: that run does not count, since it may lack the C library
+    (cd "$here/crates/$1" && rt run </dev/null) 2>&1 | tee "$log" | sed -un "s/^rt: chose --jobs [0-9]* for \(.*\)$/$name: proving \1/p" >&2
+    grep -q "^rt: running out/$1;" "$log" || { tail -n 20 "$log" >&2; stop "the program was not built"; }
+    # a program that runs cannot be written to, but another can take its place
+    cp "$here/crates/$1/out/$1" "$program.new" && touch -r "$begun" "$program.new" && mv "$program.new" "$program" || stop "cannot write to $here/target/bin"
 }
 
-# Runs target/bin/$1 from standard input to standard output, and ends with its status. The program is for x86-64, and runs with the
-# C library that it was linked with, the kit's: the machine's may be older. On another processor the kit has an emulator. Where the
-# kit is gone, a machine whose own C library will do is enough.
+# Runs target/bin/$1 from standard input to standard output, and ends with its status, 0, or 1 where a read or a write failed. The
+# program is for x86-64, and runs with the C library that it was linked with, the kit's: the machine's may be older. Where the kit is
+# gone, a machine whose own C library will do is enough.
 run() {
-    local program machine tools run said status
+    local program lib run status
     program=$here/target/bin/$1
-    machine=$(uname -m)
+    run=("$program")
     if command -v rt >/dev/null; then
-        tools=$(dirname "$(dirname "$(rt doc)")")/on/$machine/toolchain
-        run=("$tools/lib/ld-linux-x86-64.so.2" --library-path "$tools/lib" "$program")
-        [ -x "${run[0]}" ] || stop "the kit has no C library at $tools/lib for the program to run with"
-        if [ "$machine" != x86_64 ]; then
-            [ -x "$tools/bin/qemu-x86_64" ] || stop "the program is for x86-64, and the kit has no emulator for $machine"
-            run=("$tools/bin/qemu-x86_64" "${run[@]}")
-        fi
+        lib=$(dirname "$(rt doc)")/toolchain/lib
+        run=("$lib/ld-linux-x86-64.so.2" --library-path "$lib" "$program")
+        [ -x "${run[0]}" ] || stop "the kit has no C library at $lib for the program to run with"
     else
-        [ "$machine" = x86_64 ] || stop "rt is missing: its kit has the emulator that runs the program on $machine"
-        run=("$program")
         "${run[@]}" </dev/null >/dev/null 2>&1 || stop "rt is missing: its kit has the C library that the program runs with, and this machine's will not do"
     fi
-
-    # a Rattle program has no exit status of its own: what it writes to standard error is the only sign that it failed
     { true 4<&0 && true 4>&1; } 2>/dev/null || { say "standard input or standard output is closed"; exit 1; }
-    { said=$("${run[@]}" 2>&1 >&3 3>&-); } 3>&1
+    "${run[@]}"
     status=$?
-    [ -z "$said" ] || printf '%s\n' "$said" >&2
-    [ "$status" -ne 0 ] || [ -z "$said" ] || status=1
+    [ "$status" -le 1 ] || stop "the program ended with status $status"
     exit "$status"
 }

@@ -1,53 +1,47 @@
-# Builds libraries of this repository for the machine that it runs on, or for another. Sourced by compare/run, bindings/try,
+# Builds libraries of this repository for this machine, or for another processor. Sourced by ./library, compare/run, bindings/try,
 # controller/run and the examples' run, which have set root, the repository's folder, and have say, a message, and stop, a message
 # and the end with status 2.
-libraries=$root/target/library
+libraries=$root/target/staticlib
 
-# Builds libraries/lib$1.a for this machine, if the crates, the kit or the words have changed since it was last built; with a
-# target, and more words for the compiler, libraries/TARGET/lib$1.a for that. rt compiles for x86-64; for another processor the same module goes through the
+# Builds libraries/lib$1.a, for every x86-64 processor, if the crates or the kit have changed since it was last built; with a target,
+# and words for the compiler, target/library/TARGET/lib$1.a for that, and if the words have changed. It is the library of the crate
+# $1_c where there is one: a crate that others stand on is no static library. For another processor the same module goes through the
 # same compiler with another target, by a kit that differs in nothing but that.
 library() {
-    local target=${2-} into by machine kit made kept log status
-    into=$libraries${target:+/$target}
+    local target=${2-} into crate=$1 by from log rt=rt
+    into=$libraries
+    [ -z "$target" ] || into=$root/target/library/$target
+    [ ! -d "$root/crates/$1_c" ] || crate=$1_c
     by="$(rt version 2>/dev/null) ${*:2}"
-    [ -f "$into/lib$1.a" ] && [ "$(cat "$into/$1.by" 2>/dev/null)" = "$by" ] && [ -z "$(find "$root/crates.txt" "$root/crates" -newer "$into/lib$1.a" -print -quit)" ] && return
+    [ -f "$into/lib$1.a" ] && [ "$(cat "$into/$1.by" 2>/dev/null)" = "$by" ] && [ -z "$(find "$root/crates.txt" "$root"/crates/*/{src,specs,proofs} -newer "$into/lib$1.a" -print -quit 2>/dev/null)" ] && return
     command -v rt >/dev/null || stop "rt is missing: it is the command of the Rattle kit, which proves and builds lib$1.a"
     mkdir -p "$into" || stop "cannot write to $into"
     say "building lib$1.a${target:+ for $target}"
-    machine=$(uname -m)
-    [ -n "$target" ] || [ "$machine" = x86_64 ] || target=$machine-unknown-linux-gnu
-    kit=
     if [ -n "$target" ]; then
-        kit=$into/kit
-        own_kit "$(dirname "$(dirname "$(rt doc)")")" "$machine" "$kit" --target="$target" "${@:3}"
+        own_kit "$(dirname "$(rt doc)")" "$into/kit" --target="$target" "${@:3}"
+        rt=$into/kit/bin/rt
     fi
-    # what stands in target/staticlib/ is its user's, and stays
-    made=$root/target/staticlib/lib$1.a
-    kept=$into/kept.lib$1.a
+    from=$root/crates/$crate/out/lib$crate.a
     log=$into/$1.log
-    # an interrupted build may have left it put aside
-    [ ! -f "$kept" ] || [ -f "$made" ] || mv "$kept" "$made"
-    [ ! -f "$made" ] || mv "$made" "$kept"
-    (cd "$root" && if [ -n "$kit" ]; then export RATTLE_HOME="$kit"; fi && rt staticlib "$1") </dev/null >"$log" 2>&1
-    status=$?
-    [ $status -ne 0 ] || { mv "$made" "$into/lib$1.a" && printf '%s\n' "$by" >"$into/$1.by"; }
-    [ ! -f "$kept" ] || mv "$kept" "$made"
-    [ $status -eq 0 ] || { tail -n 20 "$log" >&2; stop "lib$1.a was not built"; }
+    (cd "$root/crates/$crate" && "$rt" lib --cpu=x86-64) </dev/null >"$log" 2>&1 && mv "$from" "$into/lib$1.a" && printf '%s\n' "$by" >"$into/$1.by" && return
+    tail -n 20 "$log" >&2
+    stop "lib$1.a was not built"
 }
 
-# $3 becomes links to all of the kit $1 on the machine $2 but its clang, which is called with the words after them
+# $2 becomes links to all of the kit $1 but its clang, which is called with the words after them, and its rt, which takes the kit that
+# it lies in, links followed
 own_kit() {
-    rm -rf "$3" && mkdir -p "$3/on/$2/toolchain/bin" || stop "cannot write to $3"
-    ln -s "$1"/* "$3/" 2>/dev/null
-    ln -s "$1/on/$2"/* "$3/on/$2/" 2>/dev/null
-    ln -s "$1/on/$2/toolchain"/* "$3/on/$2/toolchain/" 2>/dev/null
-    ln -s "$1/on/$2/toolchain/bin"/* "$3/on/$2/toolchain/bin/" 2>/dev/null
-    rm "$3/on/$2/toolchain/bin/clang" || stop "the kit has no clang for $2"
-    cat >"$3/on/$2/toolchain/bin/clang" <<SCRIPT
+    rm -rf "$2" && mkdir -p "$2/bin" "$2/toolchain/bin" || stop "cannot write to $2"
+    ln -s "$1"/* "$2/" 2>/dev/null
+    ln -s "$1/bin"/* "$2/bin/"
+    ln -s "$1/toolchain"/* "$2/toolchain/" 2>/dev/null
+    ln -s "$1/toolchain/bin"/* "$2/toolchain/bin/"
+    rm "$2/toolchain/bin/clang" "$2/bin/rt" "$2/bin/rtlib.py" && cp "$1/bin/rt" "$1/bin/rtlib.py" "$2/bin/" || stop "the kit has another form than $2 would have"
+    cat >"$2/toolchain/bin/clang" <<SCRIPT
 #!/usr/bin/env bash
 words=()
 for word in "\$@"; do case \$word in --target=* | -march=* | -Werror) ;; *) words+=("\$word") ;; esac; done
-exec "$1/on/$2/toolchain/bin/clang" ${@:4} -Wno-override-module "\${words[@]}" 2>/dev/null
+exec "$1/toolchain/bin/clang" ${@:3} -Wno-override-module "\${words[@]}" 2>/dev/null
 SCRIPT
-    chmod +x "$3/on/$2/toolchain/bin/clang"
+    chmod +x "$2/toolchain/bin/clang"
 }

@@ -1,6 +1,6 @@
 /* Dampmeadow: float kernels that give a number or say why not. For C (from C99) and C++.
  *
- * Link it with the library: target/staticlib/libdampmeadow.a, which `rt staticlib dampmeadow` builds for x86-64 Linux. Its
+ * Link it with the library: target/staticlib/libdampmeadow.a, which `./library` builds for x86-64 Linux. Its
  * objects are in Linux's format, ELF, which the linkers of other systems do not take.
  *
  *   cc -I include program.c target/staticlib/libdampmeadow.a -lm

@@ -1,10 +1,10 @@
-//! Finds libdampmeadow.a for the machine that is compiled for, or builds it with `rt`, or says what is missing.
+//! Finds libdampmeadow.a for the machine that is compiled for, or builds it with `./library`, or says what is missing.
 //!
 //! The library is in Linux's object format, ELF, so a build for another system is refused, and so is one for a processor that
 //! is not in the list below. It is looked for in the folder DAMPMEADOW_LIB_DIR, where that is set and not empty, and nowhere
-//! else then. Else in the repository's target/staticlib, where `rt staticlib dampmeadow` writes it for x86-64, and in
-//! target/library, where bindings/try puts one for the machine that it runs on. One that is for another machine, or older than
-//! the crates it is built from, is not taken. To build it is to prove it first, which takes a minute or two.
+//! else then. Else in the repository's target/staticlib, where `./library` writes it for x86-64, and in target/library, where
+//! `./library dampmeadow TARGET` writes it for another processor, in a folder of the target's name. One that is for another
+//! machine, or older than the crates it is built from, is not taken. To build it is to prove it first, which takes some minutes.
 //!
 //! The library asks for one function from outside, fmodf. Rust may bring one; for where it does not, the C library's
 //! mathematics, libm, is linked behind the library.
@@ -49,10 +49,12 @@ fn folder() -> Result<PathBuf, String> {
     }
 
     let root = repository()?;
-    let crates = root.join("crates");
-    println!("cargo:rerun-if-changed={}", crates.display());
-    let (staticlib, library) = (root.join("target/staticlib"), root.join("target/library"));
-    let changed = newest(&crates).max(newest(&root.join("crates.txt")));
+    let sources = sources(&root);
+    for source in &sources {
+        println!("cargo:rerun-if-changed={}", source.display());
+    }
+    let (staticlib, library) = (root.join("target/staticlib"), root.join("target/library").join(target.name()));
+    let changed = sources.iter().filter_map(|source| newest(source)).max();
     let mut faults = Vec::new();
     for folder in [&staticlib, &library] {
         match fault(folder, target, changed) {
@@ -63,16 +65,23 @@ fn folder() -> Result<PathBuf, String> {
     let faults = faults.join("; ");
     if target != Machine::X86_64 {
         return Err(format!(
-            "{faults}. rt builds it for x86-64 alone, and this build is for {target}: run bindings/try once on such a machine, \
-             which has it built for that in target/library, or set DAMPMEADOW_LIB_DIR to a folder that holds a {LIBRARY} for \
-             {target}"
+            "{faults}. This build is for {target}: run ./library dampmeadow {} in the repository once, on x86-64 Linux, or set \
+             DAMPMEADOW_LIB_DIR to a folder that holds a {LIBRARY} for {target}",
+            target.name()
         ));
     }
     build(&root).map_err(|why| format!("{faults}. {why}"))?;
     match fault(&staticlib, target, None) {
         None => Ok(staticlib),
-        Some(fault) => Err(format!("rt staticlib dampmeadow ended well, but {fault}")),
+        Some(fault) => Err(format!("./library ended well, but {fault}")),
     }
+}
+
+/// What the library is built from: the list of the crates, and of each crate all but what `rt` makes.
+fn sources(root: &Path) -> Vec<PathBuf> {
+    let crates = fs::read_dir(root.join("crates")).into_iter().flatten().flatten().map(|entry| entry.path());
+    let parts = crates.flat_map(|of| ["src", "specs", "proofs"].map(|part| of.join(part)));
+    parts.filter(|part| part.is_dir()).chain([root.join("crates.txt")]).collect()
 }
 
 /// The repository that this folder stands in as bindings/rust.
@@ -97,19 +106,16 @@ fn build(root: &Path) -> Result<(), String> {
         .and_then(|()| fs::write(&trial, ""))
         .and_then(|()| fs::remove_file(&trial))
         .map_err(|why| format!("{} cannot be written to, where the library is built: {why}", target.display()))?;
-    let run = Command::new("rt").args(["staticlib", "dampmeadow"]).current_dir(root).output();
-    let run = run.map_err(|why| match why.kind() {
-        io::ErrorKind::NotFound => format!(
-            "rt is missing, the command of the Rattle kit, which proves and builds the library: put it on the PATH, or set \
-             DAMPMEADOW_LIB_DIR to a folder that holds {LIBRARY}"
-        ),
-        _ => format!("rt could not be run: {why}"),
-    })?;
+    let run = Command::new(root.join("library")).arg("dampmeadow").output();
+    let run = run.map_err(|why| format!("./library could not be run: {why}"))?;
     if run.status.success() {
         return Ok(());
     }
-    let said = [run.stdout, run.stderr].concat();
-    Err(format!("rt staticlib dampmeadow did not build it ({}):\n{}", run.status, String::from_utf8_lossy(&said)))
+    let said = String::from_utf8_lossy(&run.stderr).into_owned();
+    Err(format!(
+        "./library did not build it ({}): {said}Else set DAMPMEADOW_LIB_DIR to a folder that holds {LIBRARY}",
+        run.status
+    ))
 }
 
 /// What is wrong with the library in a folder, if anything.
@@ -170,11 +176,16 @@ impl Machine {
         // a processor may run with narrower words, or its bytes the other way round, under the same name
         match Machine::KNOWN.iter().find(|(name, _)| *name == processor) {
             Some((_, machine)) if width == "64" && order == "little" => Ok(*machine),
-            _ => Err(format!(
-                "there is no {LIBRARY} for {target}: rt builds it for x86-64 Linux, and bindings/try for the Linux machine that \
-                 it runs on"
-            )),
+            _ => {
+                Err(format!("there is no {LIBRARY} for {target}: ./library builds it for Linux on x86-64, aarch64 or riscv64"))
+            }
         }
+    }
+
+    /// The name that `./library` takes for it.
+    fn name(self) -> String {
+        let known = Machine::KNOWN.iter().find(|(_, known)| *known == self);
+        format!("{}-unknown-linux-gnu", known.map_or("unknown", |(name, _)| name))
     }
 
     /// What the first ELF object of an archive is for.

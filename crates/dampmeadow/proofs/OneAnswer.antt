@@ -13,7 +13,7 @@ use Rattle.frame.proofs.OneAnswer.{seen}
 use Rattle.recipe.proofs.OneAnswer.{one_words}
 use Rattle.strip.proofs.OneAnswer as strip
 use Rattle.grain.specs.declared.Grain.{Grain}
-use Rattle.grain.specs.Grain.{Leaves}
+use Rattle.grain.specs.Grain.{offered}
 use Rattle.soft.proofs.Divide.{divides_one}
 use Rattle.soft.proofs.Multiply.{multiplies_one}
 use Rattle.soft.proofs.Sum.{adds_one, subtracts_one}
@@ -28,6 +28,7 @@ use Rattle.dampmeadow.proofs.dampmeadow_recipe.Reads as recipe_reads
 use Rattle.dampmeadow.proofs.dampmeadow_strip.Reads as strip_reads
 use Rattle.dampmeadow.proofs.dampmeadow_floor_marked.Reads as floor_marked
 use Rattle.dampmeadow.proofs.dampmeadow_ceil_marked.Reads as ceil_marked
+use Rattle.dampmeadow.proofs.dampmeadow_grain_offer.Reads as grain_offer
 use Rattle.dampmeadow.proofs.engine.dampmeadow_soft_add.Reads as soft_add
 use Rattle.dampmeadow.proofs.engine.dampmeadow_soft_sub.Reads as soft_sub
 use Rattle.dampmeadow.proofs.engine.dampmeadow_soft_mul.Reads as soft_mul
@@ -84,10 +85,9 @@ dampmeadow_floor_marked κs = pinned _ (λ a r x p. p)
 pub dampmeadow_ceil_marked : (κs : Lfts 0) → OneAnswer (ceil_marked.Post κs) (λ r x. r)
 dampmeadow_ceil_marked κs = pinned _ (λ a r x p. p)
 
--- The offer in place is proved by hand, and has no `Reads`: its entry is over what its contract says, `Leaves`. What is seen is the refusal and the
--- record that was lent.
-pub dampmeadow_grain_offer : (g : Grain) (w n m : ℕ) (h k : Grain) → Leaves g w n h → Leaves g w m k → (n ≡ m) × (h ≡ k)
-dampmeadow_grain_offer g w n m h k p q = (cc, cc)
+-- What is seen of the offer in place is the refusal and the record that was lent.
+pub dampmeadow_grain_offer : (κs : Lfts 1) → OneAnswer {S = ℕ × Grain} (grain_offer.Post κs) (λ r x. (r, x.0.now))
+dampmeadow_grain_offer κs = pinned (λ a. ((offered a.0.now a.1.0).refusal, (offered a.0.now a.1.0).grain)) (λ a r x p. rw (p.0, p.1))
 
 -- ---- the engine without floats
 

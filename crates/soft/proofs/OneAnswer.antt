@@ -15,14 +15,6 @@ use Rattle.soft.proofs.cos.cos.Reads as cos_reads
 use Rattle.soft.proofs.sin.sin.Reads as sin_reads
 use Rattle.soft.proofs.atan.atan_norm.Reads as atan_norm_reads
 use Rattle.soft.proofs.atan.atan.Reads as atan_reads
-use Rattle.soft.proofs.dampmeadow_soft_add.Reads as soft_add
-use Rattle.soft.proofs.dampmeadow_soft_sub.Reads as soft_sub
-use Rattle.soft.proofs.dampmeadow_soft_mul.Reads as soft_mul
-use Rattle.soft.proofs.dampmeadow_soft_div.Reads as soft_div
-use Rattle.soft.proofs.dampmeadow_soft_cos.Reads as soft_cos
-use Rattle.soft.proofs.dampmeadow_soft_sin.Reads as soft_sin
-use Rattle.soft.proofs.dampmeadow_soft_atan_norm.Reads as soft_atan_norm
-use Rattle.soft.proofs.dampmeadow_soft_atan.Reads as soft_atan
 
 pub add_add : (κs : Lfts 0) → OneAnswer (add_reads.Post κs) (λ r x. r)
 add_add κs = pinned _ (λ a r x p. adds_one binary32 _ _ r p.1)
@@ -50,27 +42,3 @@ atan_atan_norm κs = pinned _ (λ a r x p. p.0)
 
 pub atan_atan : (κs : Lfts 0) → OneAnswer (atan_reads.Post κs) (λ r x. r)
 atan_atan κs = pinned _ (λ a r x p. p.0)
-
-pub dampmeadow_soft_add : (κs : Lfts 0) → OneAnswer (soft_add.Post κs) (λ r x. r)
-dampmeadow_soft_add κs = pinned _ (λ a r x p. adds_one binary32 _ _ r p.1)
-
-pub dampmeadow_soft_sub : (κs : Lfts 0) → OneAnswer (soft_sub.Post κs) (λ r x. r)
-dampmeadow_soft_sub κs = pinned _ (λ a r x p. subtracts_one binary32 a.0 a.1.0 r p.1)
-
-pub dampmeadow_soft_mul : (κs : Lfts 0) → OneAnswer (soft_mul.Post κs) (λ r x. r)
-dampmeadow_soft_mul κs = pinned _ (λ a r x p. multiplies_one binary32 _ _ r p.1)
-
-pub dampmeadow_soft_div : (κs : Lfts 0) → OneAnswer (soft_div.Post κs) (λ r x. r)
-dampmeadow_soft_div κs = pinned _ (λ a r x p. divides_one binary32 _ _ r p.1)
-
-pub dampmeadow_soft_cos : (κs : Lfts 0) → OneAnswer (soft_cos.Post κs) (λ r x. r)
-dampmeadow_soft_cos κs = pinned _ (λ a r x p. p)
-
-pub dampmeadow_soft_sin : (κs : Lfts 0) → OneAnswer (soft_sin.Post κs) (λ r x. r)
-dampmeadow_soft_sin κs = pinned _ (λ a r x p. p)
-
-pub dampmeadow_soft_atan_norm : (κs : Lfts 0) → OneAnswer (soft_atan_norm.Post κs) (λ r x. r)
-dampmeadow_soft_atan_norm κs = pinned _ (λ a r x p. p)
-
-pub dampmeadow_soft_atan : (κs : Lfts 0) → OneAnswer (soft_atan.Post κs) (λ r x. r)
-dampmeadow_soft_atan κs = pinned _ (λ a r x p. p)
