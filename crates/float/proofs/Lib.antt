@@ -10,3 +10,4 @@ pub mod ExactCases
 pub mod Nans
 pub mod Marks
 pub mod MarkedWords
+pub mod LeftOf

@@ -33,6 +33,7 @@ pub mod powf;
 pub mod powi;
 pub mod recip;
 pub mod rem_euclid;
+mod remainder;
 pub mod round;
 pub mod signum;
 pub mod sin;

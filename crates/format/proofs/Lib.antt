@@ -34,3 +34,4 @@ pub mod Exact
 pub mod TakenOff
 pub mod Point
 pub mod Unique
+pub mod Remainder
