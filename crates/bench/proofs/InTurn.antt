@@ -1,7 +1,7 @@
 -- The turns of a run, one after the other: what each takes comes after what the ones before took. Assumes nothing.
-use Prim.Native.Nat.{ℕ, zero, suc, ◌+◌, ◌-◌, ◌≤◌, ◌<◌}
+use Prim.Native.Nat.{ℕ, ◌+◌, ◌<◌}
 use native.Mathlib.Omega.{arith}
-use mathlib.Core.Path.{◌≡◌, refl, sym, ap, ◌∙◌}
+use mathlib.Core.Path.{◌≡◌, sym, ap, ◌∙◌}
 use mathlib.Core.List.{List, [], ◌∷◌, ◌++◌, append-nil, append_assoc}
 use lib.ListN.{length, take, length-take, length-append}
 use Rattle.lines.specs.declared.Lines.{Lines}
@@ -9,9 +9,6 @@ use Rattle.lines.specs.Lines.{joined}
 use Rattle.lines.specs.Held.{fresh, after}
 use Rattle.lines.proofs.Holding.{after_cut}
 use Rattle.bench.specs.Turns.{Took, AllSome, Taken}
-
-pub at_first : Taken 0 fresh
-at_first = record { chunks = []; count = refl; some = tt; lines = refl }
 
 some_onto : (cs : List (List ℕ)) (c : List ℕ) → AllSome cs → 0 < length c → AllSome (cs ++ c ∷ [])
 some_onto [] c a h = (h, tt)

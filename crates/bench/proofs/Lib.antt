@@ -1,3 +1,4 @@
 -- What belongs to no one function.
-mod Chunk
+pub mod Chunk
 mod InTurn
+pub mod Written

@@ -1,19 +1,22 @@
 -- The turns of a run, as far as a contract can speak of them: each takes the bytes that a read has brought, and the next one begins with the
 -- line that it leaves. Which bytes those are, and whether the input has ended, only the read knows. Definitions only.
-use Rattle.std.specs.Prelude.{ℕ, ◌≤◌, ◌<◌, ◌≡◌, true, List, [], ◌∷◌, length, take, ℤ, pos}
-use Rattle.std.specs.Int.Signed.{lt_z}
-use Rattle.io.specs.Counts.{clamp_len}
+use Rattle.std.specs.Prelude.{ℕ, ◌≤◌, ◌<◌, ◌≡◌, true, List, [], ◌∷◌, length, take, min, Result, Ok, Err, IsOkAnd}
 use Rattle.lines.specs.declared.Lines.{Lines}
 use Rattle.lines.specs.Lines.{joined}
 use Rattle.lines.specs.Held.{fresh, after}
 use Rattle.bench.specs.declared.State.{State}
 
--- what is done with what a read answered: only where it brought some bytes does the run go on, with the line begun after all of them
-pub record TookAll (s : Lines) (got : ℤ) (buffer : List ℕ) (t : Lines) : Type 0 where
-  pub some : lt_z (pos 0) got ≡ true
-  pub lines : t ≡ after s (take (clamp_len got (length buffer)) buffer)
+-- how many bytes a read brought: none where it failed, and no more than there was room for
+abbrev pub brought : {E : Type 0} → Result ℕ E → ℕ → ℕ
+brought (Ok n) most = min n most
+brought (Err e) most = 0
 
-abbrev pub Takes : Lines → ℤ → List ℕ → State → Type 0
+-- what is done with what a read answered: only where it brought some bytes does the run go on, with the line begun after all of them
+pub record TookAll {E : Type 0} (s : Lines) (got : Result ℕ E) (buffer : List ℕ) (t : Lines) : Type 0 where
+  pub some : IsOkAnd got (λ n. 0 < n)
+  pub lines : t ≡ after s (take (brought got (length buffer)) buffer)
+
+abbrev pub Takes : {E : Type 0} → Lines → Result ℕ E → List ℕ → State → Type 0
 Takes s got buffer r = r.goes_on ≡ true → TookAll s got buffer r.lines
 
 -- a turn that goes on has taken some bytes from the front of the buffer, and the line then begun is the one after them

@@ -1,107 +1,165 @@
-// The run on the bench: frames from standard input, their answers to standard output, one a line in
-// their order. It holds a buffer of 65,536 bytes for what is read, another for what is written, and
-// the first 19 bytes of the line begun, whatever the input is. The programs `frames` and `vectors`
-// stand on it. No contract can say what a read brings or what a write does; all else is stated.
-ghost use Rattle.std.specs.Prelude.{◌-◌, ◌≤◌, ◌^◌, ◌≡◌, false, length};
-ghost use Rattle.lines.specs.Held.{answers_from, last_answer};
-ghost use Rattle.bench.specs.Chunk.{Steps, Answers};
-ghost use Rattle.bench.specs.Turns.{Takes, Turns, Runs};
+// The run on the bench: frames from a reader, their answers to a writer, one a line in their order.
+// It holds a buffer of 65,536 bytes for what is read, another for what is written, and the first 19
+// bytes of the line begun, whatever the input is. The programs `frames` and `vectors` are this run
+// over standard input and output, of which no contract can say what they bring and take.
+#![tactic(auto)]
 
-use libc::{STDIN_FILENO, STDOUT_FILENO};
+ghost use Rattle.std.specs.Prelude.{◌-◌, ◌≤◌, ◌<◌, ◌^◌, ◌≡◌, true, false, length, Ok, Err, IfOk, IfErr, IfSome, OnOk, OnErr};
+ghost use Rattle.std.specs.Io.KnownBytes.{Appends};
+ghost use Rattle.frame.specs.Frame.{answer_bytes};
+ghost use Rattle.lines.specs.Lines.{answers_of};
+ghost use Rattle.lines.specs.Held.{answers_from, front, last_answer};
+ghost use Rattle.bench.specs.Chunk.{Steps, Answers, rest};
+ghost use Rattle.bench.specs.Turns.{Takes, Turns, Runs};
+ghost use Rattle.bench.specs.Written.{AppendsFront, Answered, due, due_for};
+
 use lines::Lines;
+use std::io::{ErrorKind, Read, Write};
+use std::{fmt, io};
 
 // Where a run stands: the line begun, and whether it goes on.
-#[derive(Drop)]
+#[derive(Clone, Copy)]
 pub struct State {
     lines: Lines,
     goes_on: bool,
 }
 
-// What was done of a chunk: the line then begun, the bytes read, and whether the answers were written.
-#[derive(Drop)]
+// What was done of a chunk: the line then begun, and the bytes read.
+#[derive(Clone, Copy)]
 struct Done {
     lines: Lines,
     read: usize,
-    is_written: bool,
 }
 
-// Reads until the input ends, and answers as the lines end. A read or a write that fails ends the run
-// with a message on standard error. A proved loop has to end, so turns are counted down, from a number
-// that no run uses up.
-pub fn run() -> State
-    ensures { Runs (2 ^ 64 - 1) result }
+// Why a run ended before its input did.
+#[derive(Clone, Copy)]
+pub enum Fault {
+    Input(io::Error),
+    Output(io::Error),
+}
+
+// In words, as `main` prints what it ends with.
+impl fmt::Debug for Fault {
+    fn fmt<W: fmt::Write>(&self, f: &mut fmt::Formatter<W>) -> fmt::Result {
+        match self {
+            Fault::Input(e) => write!(f, "standard input: {e}"),
+            Fault::Output(e) => write!(f, "standard output: {e}"),
+        }
+    }
+}
+
+// Reads until the input ends, and answers as the lines end. A read or a write that fails ends the run.
+// A proved loop has to end, so turns are counted, up to a number that no run reaches.
+pub fn run<R: Read, W: Write>(input: &mut R, output: &mut W) -> Result<State, Fault>
+    ensures turns { IfOk result (λ r. Runs (2 ^ 64 - 1) r) }
+
+    // Where the bytes are known. Until the input ends, or where it fails, the first ones are written.
+    ensures all { IfOk result (λ r. r.goes_on ≡ false → IfSome (R.remaining input.old)
+        (λ bytes. Appends (W.contents output.old) (W.contents output.new) (answers_of answer_bytes bytes))) }
+    ensures first { IfSome (R.remaining input.old)
+        (λ bytes. AppendsFront (W.contents output.old) (W.contents output.new) (answers_of answer_bytes bytes)) }
 {
-    turns(u64::MAX)
+    turns(u64::MAX, input, output)
 }
 
 // So many turns, or fewer where the run ends before.
-fn turns(most: u64) -> State
-    ensures { Runs most result }
+fn turns<R: Read, W: Write>(most: u64, input: &mut R, output: &mut W) -> Result<State, Fault>
+    ensures turns { IfOk result (λ r. Runs most r) }
+    ensures all { IfOk result (λ r. r.goes_on ≡ false → IfSome (R.remaining input.old)
+        (λ bytes. Appends (W.contents output.old) (W.contents output.new) (answers_of answer_bytes bytes))) }
+    ensures first { IfSome (R.remaining input.old)
+        (λ bytes. AppendsFront (W.contents output.old) (W.contents output.new) (answers_of answer_bytes bytes)) }
 {
-    let mut chunk = io::large_buffer();
-    let mut out = io::large_buffer();
+    let mut chunk = [0u8; 65536];
+    let mut out = [0u8; 65536];
     let mut begun = Lines::new();
-    let mut more = most;
-    while more > 0 {
-        let state = turn(begun, &mut chunk, &mut out);
+    'turns: for _turn in 0..most {
+        let state = turn(begun, input, output, &mut chunk, &mut out)?;
         begun = state.lines;
         if !state.goes_on {
-            return stopped(begun);
+            return Ok(stopped(begun));
         }
-        more -= 1;
     }
-    State {
+    Ok(State {
         lines: begun,
         goes_on: true,
-    }
+    })
 }
 
 // One read, and what is done with it.
-fn turn(lines: Lines, chunk: &mut [u8], out: &mut [u8]) -> State
+fn turn<R: Read, W: Write>(
+    lines: Lines,
+    input: &mut R,
+    output: &mut W,
+    chunk: &mut [u8],
+    out: &mut [u8],
+) -> Result<State, Fault>
     requires { 11 ≤ length out.old }
-    ensures { Turns lines chunk.new result }
+    ensures turns { IfOk result (λ r. Turns lines chunk.new r) }
+    ensures more { IfOk result (λ r. r.goes_on ≡ true →
+        Answered lines (R.remaining input.old) (R.remaining input.new) (W.contents output.old) (W.contents output.new) r.lines) }
+    ensures all { IfOk result (λ r. r.goes_on ≡ false → 0 < length chunk.old → IfSome (R.remaining input.old)
+        (λ bytes. Appends (W.contents output.old) (W.contents output.new) (due lines bytes))) }
+    ensures first { OnErr result (0 < length chunk.old → IfSome (R.remaining input.old)
+        (λ bytes. AppendsFront (W.contents output.old) (W.contents output.new) (due lines bytes))) }
 {
-    let got = libc::read(STDIN_FILENO, chunk);
-    taken(lines, got, chunk, out)
+    let got = input.read(chunk);
+    taken(lines, got, output, chunk, out)
 }
 
 // What a read answered, with the bytes that it brought at the front of the chunk: the answers to the
 // lines that end in them, and at the end of the input that to the last.
-fn taken(lines: Lines, got: isize, chunk: &[u8], out: &mut [u8]) -> State
+fn taken<W: Write>(
+    lines: Lines,
+    got: io::Result<usize>,
+    output: &mut W,
+    chunk: &[u8],
+    out: &mut [u8],
+) -> Result<State, Fault>
     requires { 11 ≤ length out.old }
-    ensures { Takes lines got chunk.now result }
+    ensures takes { IfOk result (λ r. Takes lines got chunk.now r) }
+    ensures ended { IfOk result (λ r. r.goes_on ≡ false → got ≡ Ok 0) }
+    ensures failed { IfErr got (λ e. result ≡ Err (Fault.Input e)) }
+    ensures written { OnOk result (Appends (W.contents output.old) (W.contents output.new) (due_for lines got chunk.now)) }
+    ensures first { OnErr result (AppendsFront (W.contents output.old) (W.contents output.new) (due_for lines got chunk.now)) }
 {
-    if got < 0 {
-        os::fail(b"standard input");
-        return stopped(lines);
+    match got {
+        Err(e) => Err(Fault::Input(e)),
+        Ok(0) => {
+            end(lines, output)?;
+            Ok(stopped(lines))
+        }
+        Ok(read) => {
+            let n = read.min(chunk.len());
+            answered(lines, output, &chunk[..n], out)
+        }
     }
-    if got == 0 {
-        end(lines);
-        return stopped(lines);
-    }
-    let n = io::count(got, chunk);
-    answered(lines, &chunk[..n], out)
 }
 
 // Answers a chunk, as much of it at a time as there is room for the answers.
-fn answered(lines: Lines, chunk: &[u8], out: &mut [u8]) -> State
+fn answered<W: Write>(
+    lines: Lines,
+    output: &mut W,
+    chunk: &[u8],
+    out: &mut [u8],
+) -> Result<State, Fault>
     requires { 11 ≤ length out.old }
-    ensures { Answers lines chunk.now result }
+    ensures answers { IfOk result (λ r. Answers lines chunk.now r) }
+    ensures goes_on { IfOk result (λ r. r.goes_on ≡ true) }
+    ensures written { OnOk result (Appends (W.contents output.old) (W.contents output.new) (answers_from lines chunk.now)) }
+    ensures first { OnErr result (AppendsFront (W.contents output.old) (W.contents output.new) (answers_from lines chunk.now)) }
 {
     let mut begun = lines;
     let mut left = chunk.len();
     while left > 0 {
-        let done = step(begun, chunk, left, out);
+        let done = step(begun, output, chunk, left, out)?;
         begun = done.lines;
-        if !done.is_written {
-            return stopped(begun);
-        }
         left -= done.read;
     }
-    State {
+    Ok(State {
         lines: begun,
         goes_on: true,
-    }
+    })
 }
 
 fn stopped(lines: Lines) -> State
@@ -114,9 +172,19 @@ fn stopped(lines: Lines) -> State
 }
 
 // Answers what it can of the last bytes of a chunk.
-fn step(lines: Lines, chunk: &[u8], left: usize, out: &mut [u8]) -> Done
+fn step<W: Write>(
+    lines: Lines,
+    output: &mut W,
+    chunk: &[u8],
+    left: usize,
+    out: &mut [u8],
+) -> Result<Done, Fault>
     requires { left ≤ length chunk.now }
-    ensures { Steps (length out.old) lines chunk.now left result }
+    ensures steps { IfOk result (λ r. Steps (length out.old) lines chunk.now left r) }
+    ensures written { OnOk result (Appends (W.contents output.old) (W.contents output.new)
+        (answers_from lines (front (length out.old) (rest chunk.now left)))) }
+    ensures first { OnErr result (AppendsFront (W.contents output.old) (W.contents output.new)
+        (answers_from lines (front (length out.old) (rest chunk.now left)))) }
 {
     let at = chunk.len() - left;
     let fed = lines.feed(&chunk[at..], out);
@@ -124,40 +192,55 @@ fn step(lines: Lines, chunk: &[u8], left: usize, out: &mut [u8]) -> Done
     let read = fed.read;
     let n = fed.written;
     let to = at + read;
-    let is_written = write_answers(lines, &chunk[at..to], &out[..n]);
-    Done {
-        lines: begun,
-        read,
-        is_written,
-    }
+    write_answers(lines, output, &chunk[at..to], &out[..n])?;
+    Ok(Done { lines: begun, read })
 }
 
 // Answers the line that the input ends with.
-fn end(lines: Lines) {
+fn end<W: Write>(lines: Lines, output: &mut W) -> Result<(), Fault>
+    ensures written { OnOk result (Appends (W.contents output.old) (W.contents output.new) (last_answer lines)) }
+    ensures first { OnErr result (AppendsFront (W.contents output.old) (W.contents output.new) (last_answer lines)) }
+{
     let mut last = [0u8; 11];
     let n = lines.finish(&mut last);
-    write_last(lines, &last[..n]);
+    write_last(lines, output, &last[..n])
 }
 
 // Writes the answers to the lines that end in some bytes.
-fn write_answers(lines: Lines, bytes: &[u8], answers: &[u8]) -> bool
+fn write_answers<W: Write>(
+    lines: Lines,
+    output: &mut W,
+    bytes: &[u8],
+    answers: &[u8],
+) -> Result<(), Fault>
     requires { answers.now ≡ answers_from lines bytes.now }
+    ensures written { OnOk result (Appends (W.contents output.old) (W.contents output.new) (answers_from lines bytes.now)) }
+    ensures first { OnErr result (AppendsFront (W.contents output.old) (W.contents output.new) (answers_from lines bytes.now)) }
 {
-    write(answers)
+    write(output, answers)
 }
 
 // Writes the answer to the line that the input ends with.
-fn write_last(lines: Lines, answer: &[u8]) -> bool
+fn write_last<W: Write>(lines: Lines, output: &mut W, answer: &[u8]) -> Result<(), Fault>
     requires { answer.now ≡ last_answer lines }
+    ensures written { OnOk result (Appends (W.contents output.old) (W.contents output.new) (last_answer lines)) }
+    ensures first { OnErr result (AppendsFront (W.contents output.old) (W.contents output.new) (last_answer lines)) }
 {
-    write(answer)
+    write(output, answer)
 }
 
-// Writes some bytes, and says whether they were written.
-fn write(bytes: &[u8]) -> bool {
-    let done = io::write_all(STDOUT_FILENO, bytes);
-    if !done {
-        os::fail(b"standard output");
+// Writes some bytes, all of them or up to the first write that fails or takes none.
+fn write<W: Write>(output: &mut W, bytes: &[u8]) -> Result<(), Fault>
+    ensures written { OnOk result (Appends (W.contents output.old) (W.contents output.new) bytes.now) }
+    ensures first { OnErr result (AppendsFront (W.contents output.old) (W.contents output.new) bytes.now) }
+{
+    let mut done = 0;
+    while done < bytes.len() {
+        match output.write(&bytes[done..]) {
+            Ok(0) => return Err(Fault::Output(io::Error::from(ErrorKind::WriteZero))),
+            Ok(n) => done += n,
+            Err(e) => return Err(Fault::Output(e)),
+        }
     }
-    done
+    Ok(())
 }

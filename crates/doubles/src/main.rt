@@ -2,41 +2,44 @@
 // is an operation in two digits, a blank and a word in sixteen; its answer, to standard output, is
 // the refusal in two digits, a blank and the word in sixteen. No contract says what a read brings or
 // what a write does; docs/EXCEPTIONS.md has what shows it.
+#![tactic(auto)]
+
 use double::words;
-use libc::{STDIN_FILENO, STDOUT_FILENO};
+use std::io;
+use std::io::{ErrorKind, Read, Write};
 
 // The bytes of a line, its newline with them.
 const LINE: usize = 20;
 
-fn main() {
-    run();
+fn main(rt: HostRuntime) -> io::Result<()> {
+    run(&mut rt.stdin(), &mut rt.stdout())
 }
 
 // Answers line by line, as long as there are whole ones. A proved loop has to end, so lines are
-// counted down, from a number that no list uses up.
-fn run() {
-    let mut more = u64::MAX;
-    while more > 0 {
-        if !step() {
-            return;
+// counted, up to a number that no list reaches.
+fn run<R: Read, W: Write>(input: &mut R, output: &mut W) -> io::Result<()> {
+    for _ in 0..u64::MAX {
+        if !step(input, output)? {
+            return Ok(());
         }
-        more -= 1;
     }
+    Ok(())
 }
 
-// Reads one line and answers it, and says whether it did.
-fn step() -> bool {
+// Reads one line and answers it, and says whether there was one.
+fn step<R: Read, W: Write>(input: &mut R, output: &mut W) -> io::Result<bool> {
     let mut line = [0u8; LINE];
-    if io::read_full(STDIN_FILENO, &mut line) < LINE {
-        return false;
+    if let Err(e) = input.read_exact(&mut line) {
+        return if e.kind() == ErrorKind::UnexpectedEof {
+            Ok(false)
+        } else {
+            Err(e)
+        };
     }
     let op = (number(&line, 0, 2) % 0x100) as u32;
     let word = number(&line, 3, 19);
-    let done = tell(op, word);
-    if !done {
-        os::fail(b"standard output");
-    }
-    done
+    tell(op, word, output)?;
+    Ok(true)
 }
 
 // The number that the digits of a line write from a place up to another.
@@ -64,17 +67,10 @@ fn digit(b: u8) -> u64 {
     (b - 0x57) as u64
 }
 
-// Writes the answer to a call, and says whether it was written.
-fn tell(op: u32, a: u64) -> bool {
+// Writes the answer to a call.
+fn tell<W: Write>(op: u32, a: u64, output: &mut W) -> io::Result<()> {
     let answer = words::answer(op, a);
-    if !io::print_hex(STDOUT_FILENO, answer.refusal as u64, 2) {
-        return false;
-    }
-    if !io::write_all(STDOUT_FILENO, b" ") {
-        return false;
-    }
-    if !io::print_hex(STDOUT_FILENO, answer.word, 16) {
-        return false;
-    }
-    io::write_all(STDOUT_FILENO, b"\n")
+    let refusal = answer.refusal;
+    let word = answer.word;
+    writeln!(output, "{refusal:02x} {word:016x}")
 }

@@ -1,4 +1,9 @@
 // Answers the frames of standard input.
-fn main() {
-    bench::run();
+#![tactic(auto)]
+
+use bench::Fault;
+
+fn main(rt: HostRuntime) -> Result<(), Fault> {
+    bench::run(&mut rt.stdin(), &mut rt.stdout())?;
+    Ok(())
 }

@@ -1,3 +1,3 @@
 -- What belongs to no one function.
-mod Telling
 pub mod Holding
+pub mod Written

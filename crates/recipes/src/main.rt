@@ -1,20 +1,24 @@
 // Answers recipes: each line of standard input is x as eight digits, a blank and a recipe, and its
 // answer, to standard output, is eleven bytes as a frame's, one a line in their order. It holds a
 // buffer of 65,536 bytes for what is read and the first 250 bytes of the line begun, whatever the
-// input is. No contract says what a read brings, what a write does, or that each line is answered as
-// it ends; docs/EXCEPTIONS.md has what is stated, and what shows the rest.
-ghost use Rattle.std.specs.Prelude.{◌≡◌, true, false, length, take, pos};
-ghost use Rattle.std.specs.Int.Signed.{lt_z};
-ghost use Rattle.io.specs.Counts.{clamp_len};
-ghost use Rattle.recipe.specs.Entry.{AnswersEntry};
-ghost use Rattle.recipes.specs.Held.{Leaves, Tells};
+// input is. No contract says what standard input brings and what standard output takes, or that each
+// line is answered as it ends; docs/EXCEPTIONS.md has what is stated, and what shows the rest.
+#![tactic(auto)]
 
-use libc::{STDIN_FILENO, STDOUT_FILENO};
+ghost use Rattle.std.specs.Prelude.{◌≡◌, ◌<◌, ℕ, List, true, false, length, take, Ok, Err, IfOk, IfErr, IfSome, OnOk, OnErr, IsOkAnd};
+ghost use Rattle.std.specs.Io.KnownBytes.{Appends};
+ghost use Rattle.recipe.specs.Entry.{AnswersEntry};
+ghost use Rattle.lines.specs.Lines.{lines_of, completed, last_line};
+ghost use Rattle.recipes.specs.Held.{Holds, Leaves, Tells, brought};
+ghost use Rattle.recipes.specs.Written.{Adds, AddsFirst, AppendsFront, Answered, due, due_for};
+
 use recipe::entry;
+use std::io::{ErrorKind, Read, Write};
+use std::{fmt, io};
 
 // The line begun and not ended yet: its first bytes, and how many they are. With x and the blank a
 // recipe of 240 bytes makes 249, so one more says that it is too long, whatever follows.
-#[derive(Drop)]
+#[derive(Clone, Copy)]
 struct Begun {
     held: [u8; KEPT],
     count: usize,
@@ -23,63 +27,113 @@ struct Begun {
 const KEPT: usize = 250;
 
 // Where a run stands: the line begun, and whether it goes on.
-#[derive(Drop)]
+#[derive(Clone, Copy)]
 struct State {
     begun: Begun,
     goes_on: bool,
 }
 
-fn main() {
-    run();
+// Why a run ended before its input did.
+#[derive(Clone, Copy)]
+enum Fault {
+    Input(io::Error),
+    Output(io::Error),
 }
 
-// Reads until the input ends, and answers as the lines end. A read or a write that fails ends the
-// run with a message on standard error. A proved loop has to end, so turns are counted down, from a
-// number that no run uses up.
-fn run() {
-    let mut chunk = io::large_buffer();
+// In words, as `main` prints what it ends with.
+impl fmt::Debug for Fault {
+    fn fmt<W: fmt::Write>(&self, f: &mut fmt::Formatter<W>) -> fmt::Result {
+        match self {
+            Fault::Input(e) => write!(f, "standard input: {e}"),
+            Fault::Output(e) => write!(f, "standard output: {e}"),
+        }
+    }
+}
+
+fn main(rt: HostRuntime) -> Result<(), Fault> {
+    run(&mut rt.stdin(), &mut rt.stdout())?;
+    Ok(())
+}
+
+// Reads until the input ends, and answers as the lines end. A read or a write that fails ends the run.
+// A proved loop has to end, so turns are counted, up to a number that no run reaches.
+fn run<R: Read, W: Write>(input: &mut R, output: &mut W) -> Result<State, Fault>
+    // Where the bytes are known. Until the input ends, or where it fails, the first ones are written.
+    ensures all { IfOk result (λ r. r.goes_on ≡ false → IfSome (R.remaining input.old)
+        (λ bytes. Adds (lines_of bytes) (W.contents output.old) (W.contents output.new))) }
+    ensures first { IfSome (R.remaining input.old)
+        (λ bytes. AddsFirst (lines_of bytes) (W.contents output.old) (W.contents output.new)) }
+{
+    let mut chunk = [0u8; 65536];
     let mut begun = Begun {
         held: [0; KEPT],
         count: 0,
     };
-    let mut more = u64::MAX;
-    while more > 0 {
-        let state = turn(begun, &mut chunk);
+    'turns: for _turn in 0..u64::MAX {
+        let state = turn(begun, input, output, &mut chunk)?;
         begun = state.begun;
         if !state.goes_on {
-            return;
+            return Ok(stopped(begun));
         }
-        more -= 1;
     }
+    Ok(State {
+        begun,
+        goes_on: true,
+    })
 }
 
 // One read, and what is done with it.
-fn turn(begun: Begun, chunk: &mut [u8]) -> State {
-    let got = libc::read(STDIN_FILENO, chunk);
-    taken(begun, got, chunk)
+fn turn<R: Read, W: Write>(
+    begun: Begun,
+    input: &mut R,
+    output: &mut W,
+    chunk: &mut [u8],
+) -> Result<State, Fault>
+    ensures more { IfOk result (λ r. r.goes_on ≡ true → (p : List ℕ) → Holds p begun →
+        Answered p (R.remaining input.old) (R.remaining input.new) (W.contents output.old) (W.contents output.new) r.begun) }
+    ensures all { IfOk result (λ r. r.goes_on ≡ false → 0 < length chunk.old → (p : List ℕ) → Holds p begun → IfSome (R.remaining input.old)
+        (λ bytes. Adds (due p bytes) (W.contents output.old) (W.contents output.new))) }
+    ensures first { OnErr result (0 < length chunk.old → (p : List ℕ) → Holds p begun → IfSome (R.remaining input.old)
+        (λ bytes. AddsFirst (due p bytes) (W.contents output.old) (W.contents output.new))) }
+{
+    let got = input.read(chunk);
+    taken(begun, got, output, chunk)
 }
 
 // What a read answered, with the bytes that it brought at the front of the chunk: the answers to the
 // lines that end in them, and at the end of the input that to the last, where it is not empty.
-fn taken(begun: Begun, got: isize, chunk: &[u8]) -> State
-    ensures bytes { Leaves begun (take (clamp_len got (length chunk.now)) chunk.now) result }
-    ensures some { result.goes_on ≡ true → lt_z (pos 0) got ≡ true }
+fn taken<W: Write>(
+    begun: Begun,
+    got: io::Result<usize>,
+    output: &mut W,
+    chunk: &[u8],
+) -> Result<State, Fault>
+    ensures bytes { IfOk result (λ r. Leaves begun (take (brought got (length chunk.now)) chunk.now) r) }
+    ensures some { IfOk result (λ r. r.goes_on ≡ true → IsOkAnd got (λ n. 0 < n)) }
+    ensures ended { IfOk result (λ r. r.goes_on ≡ false → got ≡ Ok 0) }
+    ensures failed { IfErr got (λ e. result ≡ Err (Fault.Input e)) }
+    ensures written { OnOk result ((p : List ℕ) → Holds p begun → Adds (due_for p got chunk.now) (W.contents output.old) (W.contents output.new)) }
+    ensures first { OnErr result ((p : List ℕ) → Holds p begun → AddsFirst (due_for p got chunk.now) (W.contents output.old) (W.contents output.new)) }
 {
-    if got > 0 {
-        let n = io::count(got, chunk);
-        return answered(begun, &chunk[..n]);
+    match got {
+        Err(e) => Err(Fault::Input(e)),
+        Ok(0) => {
+            end(begun, output)?;
+            Ok(stopped(begun))
+        }
+        Ok(read) => {
+            let n = read.min(chunk.len());
+            answered(begun, output, &chunk[..n])
+        }
     }
-    if got < 0 {
-        os::fail(b"standard input");
-        return stopped(begun);
-    }
-    end(begun);
-    stopped(begun)
 }
 
 // Answers the lines that end in some bytes.
-fn answered(begun: Begun, bytes: &[u8]) -> State
-    ensures { Leaves begun bytes.now result }
+fn answered<W: Write>(begun: Begun, output: &mut W, bytes: &[u8]) -> Result<State, Fault>
+    ensures leaves { IfOk result (λ r. Leaves begun bytes.now r) }
+    ensures goes_on { IfOk result (λ r. r.goes_on ≡ true) }
+    ensures written { OnOk result ((p : List ℕ) → Holds p begun → Adds (completed p bytes.now) (W.contents output.old) (W.contents output.new)) }
+    ensures first { OnErr result ((p : List ℕ) → Holds p begun → AddsFirst (completed p bytes.now) (W.contents output.old) (W.contents output.new)) }
 {
     let mut held = begun.held;
     let mut count = begun.count;
@@ -87,9 +141,7 @@ fn answered(begun: Begun, bytes: &[u8]) -> State
     while i < bytes.len() {
         let b = bytes[i];
         if b == b'\n' {
-            if !tell(Begun { held, count }) {
-                return stopped(begun);
-            }
+            tell(Begun { held, count }, output)?;
             count = 0;
             i += 1;
         } else if count < KEPT {
@@ -100,10 +152,10 @@ fn answered(begun: Begun, bytes: &[u8]) -> State
             i += 1;
         }
     }
-    State {
+    Ok(State {
         begun: Begun { held, count },
         goes_on: true,
-    }
+    })
 }
 
 fn stopped(begun: Begun) -> State
@@ -116,19 +168,26 @@ fn stopped(begun: Begun) -> State
 }
 
 // Answers the line that the input ends with.
-fn end(begun: Begun) {
+fn end<W: Write>(begun: Begun, output: &mut W) -> Result<(), Fault>
+    ensures written { OnOk result ((p : List ℕ) → Holds p begun → Adds (last_line p) (W.contents output.old) (W.contents output.new)) }
+    ensures first { OnErr result ((p : List ℕ) → Holds p begun → AddsFirst (last_line p) (W.contents output.old) (W.contents output.new)) }
+{
     if begun.count > 0 {
-        tell(begun);
+        tell(begun, output)?;
     }
+    Ok(())
 }
 
-// Answers the line held, and says whether its answer was written.
-fn tell(begun: Begun) -> bool {
+// Answers the line held.
+fn tell<W: Write>(begun: Begun, output: &mut W) -> Result<(), Fault>
+    ensures written { OnOk result ((answer : List ℕ) × Tells begun answer × Appends (W.contents output.old) (W.contents output.new) answer) }
+    ensures first { OnErr result ((answer : List ℕ) × Tells begun answer × AppendsFront (W.contents output.old) (W.contents output.new) answer) }
+{
     let held = begun.held;
     let words = words_of(&held, begun.count);
     let mut answer = [0u8; 11];
     frame::write(words, &mut answer);
-    write(begun, &answer)
+    write(begun, output, &answer)
 }
 
 // The answer to the line held, as words.
@@ -142,13 +201,19 @@ fn words_of(held: &[u8; KEPT], count: usize) -> u64
     entry::answer(line)
 }
 
-// Writes the answer to the line held.
-fn write(begun: Begun, answer: &[u8]) -> bool
+// Writes the answer to the line held, all of it or up to the first write that fails or takes none.
+fn write<W: Write>(begun: Begun, output: &mut W, answer: &[u8]) -> Result<(), Fault>
     requires { Tells begun answer.now }
+    ensures written { OnOk result (Appends (W.contents output.old) (W.contents output.new) answer.now) }
+    ensures first { OnErr result (AppendsFront (W.contents output.old) (W.contents output.new) answer.now) }
 {
-    let done = io::write_all(STDOUT_FILENO, answer);
-    if !done {
-        os::fail(b"standard output");
+    let mut done = 0;
+    while done < answer.len() {
+        match output.write(&answer[done..]) {
+            Ok(0) => return Err(Fault::Output(io::Error::from(ErrorKind::WriteZero))),
+            Ok(n) => done += n,
+            Err(e) => return Err(Fault::Output(e)),
+        }
     }
-    done
+    Ok(())
 }

@@ -1,4 +1,9 @@
 // The same run, over the list of frames whose answers the comparison has made.
-fn main() {
-    bench::run();
+#![tactic(auto)]
+
+use bench::Fault;
+
+fn main(rt: HostRuntime) -> Result<(), Fault> {
+    bench::run(&mut rt.stdin(), &mut rt.stdout())?;
+    Ok(())
 }

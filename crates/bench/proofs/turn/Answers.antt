@@ -1,0 +1,10 @@
+-- `bench::turn` hands on what the read answered: where it ends early, the first of what is due are written.
+use Rattle.std.proofs.Common.{arith, rules, ◌≡◌, length}
+use Rattle.bench.proofs.Written.{call_due}
+use Rattle.bench.proofs.turn.Goals as goal
+
+pub returns-clause-first : goal.returns-clause-first
+returns-clause-first g c =
+    let h : length c.args.lines.held ≡ 19 = search rules in
+    let e : length c.read-got.new.buf ≡ length c.args.chunk.now = omega arith in
+    call_due _ _ _ _ _ _ _ _ _ h e c.read-got.ensures.bound c.read-got.ensures.bytes c.taken.ensures.first

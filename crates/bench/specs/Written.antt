@@ -1,0 +1,26 @@
+-- What a run writes, of a reader whose bytes are known to a writer of which it is known what it holds: the answers to what was read. Definitions only.
+use Rattle.std.specs.Prelude.{ℕ, zero, suc, ◌≡◌, min, List, [], ◌++◌, length, take, Option, Result, Ok, Err}
+use Rattle.std.specs.Io.KnownBytes.{Appends, Consumes}
+use Rattle.lines.specs.declared.Lines.{Lines}
+use Rattle.lines.specs.Held.{after, answers_from, last_answer}
+
+-- the first of some bytes are added, however many those are
+abbrev pub AppendsFront : Option (List ℕ) → Option (List ℕ) → List ℕ → Type 0
+AppendsFront held held' bytes = (n : ℕ) × Appends held held' (take n bytes)
+
+-- some bytes were taken from the reader, the answers to the lines that end in them were added to what the writer holds, and t is the line then begun
+pub record Answered (s : Lines) (left left' held held' : Option (List ℕ)) (t : Lines) : Type 0 where
+  pub bytes : List ℕ
+  pub read : Consumes left left' bytes
+  pub written : Appends held held' (answers_from s bytes)
+  pub lines : t ≡ after s bytes
+
+-- what is due for some bytes with which the input ends
+abbrev pub due : Lines → List ℕ → List ℕ
+due s bytes = answers_from s bytes ++ last_answer (after s bytes)
+
+-- what is due for what a read answered: at the end of the input the last line's answer
+abbrev pub due_for : {E : Type 0} → Lines → Result ℕ E → List ℕ → List ℕ
+due_for s (Ok zero) buffer = last_answer s
+due_for s (Ok (suc k)) buffer = answers_from s (take (min (suc k) (length buffer)) buffer)
+due_for s (Err e) buffer = []
