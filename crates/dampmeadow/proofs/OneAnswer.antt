@@ -13,7 +13,7 @@ use Rattle.frame.proofs.OneAnswer.{seen}
 use Rattle.recipe.proofs.OneAnswer.{one_words}
 use Rattle.strip.proofs.OneAnswer as strip
 use Rattle.grain.specs.declared.Grain.{Grain}
-use Rattle.grain.specs.Grain.{offered}
+use Rattle.grain.specs.Grain.{offered, Leaves}
 use Rattle.soft.proofs.Divide.{divides_one}
 use Rattle.soft.proofs.Multiply.{multiplies_one}
 use Rattle.soft.proofs.Sum.{adds_one, subtracts_one}
@@ -85,9 +85,12 @@ dampmeadow_floor_marked κs = pinned _ (λ a r x p. p)
 pub dampmeadow_ceil_marked : (κs : Lfts 0) → OneAnswer (ceil_marked.Post κs) (λ r x. r)
 dampmeadow_ceil_marked κs = pinned _ (λ a r x p. p)
 
--- What is seen of the offer in place is the refusal and the record that was lent.
-pub dampmeadow_grain_offer : (κs : Lfts 1) → OneAnswer {S = ℕ × Grain} (grain_offer.Post κs) (λ r x. (r, x.0.now))
-dampmeadow_grain_offer κs = pinned (λ a. ((offered a.0.now a.1.0).refusal, (offered a.0.now a.1.0).grain)) (λ a r x p. rw (p.0, p.1))
+-- What is seen of the offer in place is the refusal and the record that was lent: by what its contract says, `Leaves`, and over the contract itself.
+pub dampmeadow_grain_offer : (g : Grain) (w n m : ℕ) (h k : Grain) → Leaves g w n h → Leaves g w m k → (n ≡ m) × (h ≡ k)
+dampmeadow_grain_offer g w n m h k p q = (cc, cc)
+
+pub dampmeadow_grain_offer_lent : (κs : Lfts 1) → OneAnswer {S = ℕ × Grain} (grain_offer.Post κs) (λ r x. (r, x.0.now))
+dampmeadow_grain_offer_lent κs = pinned (λ a. ((offered a.0.now a.1.0).refusal, (offered a.0.now a.1.0).grain)) (λ a r x p. rw (p.0, p.1))
 
 -- ---- the engine without floats
 
