@@ -20,23 +20,15 @@ build() {
     cp "$here/crates/$1/out/$1" "$program.new" && touch -r "$begun" "$program.new" && mv "$program.new" "$program" || stop "cannot write to $here/target/bin"
 }
 
-# Runs target/bin/$1 from standard input to standard output, and ends with its status, 0, or 1 where a read or a write failed. The
-# program is for x86-64, and runs with the C library that it was linked with, the kit's: the machine's may be older. Where the kit is
-# gone, a machine whose own C library will do is enough.
+# Runs target/bin/$1 from standard input to standard output, and ends with its status, 0, or 1 where a read or a write failed, which
+# the program says on standard error. It is for x86-64 and takes the machine's C library: that it starts is tried first, over no input.
 run() {
-    local program lib run status
-    program=$here/target/bin/$1
-    run=("$program")
-    if command -v rt >/dev/null; then
-        lib=$(dirname "$(rt doc)")/toolchain/lib
-        run=("$lib/ld-linux-x86-64.so.2" --library-path "$lib" "$program")
-        [ -x "${run[0]}" ] || stop "the kit has no C library at $lib for the program to run with"
-    else
-        "${run[@]}" </dev/null >/dev/null 2>&1 || stop "rt is missing: its kit has the C library that the program runs with, and this machine's will not do"
-    fi
+    local program=$here/target/bin/$1 said status
+    said=$("$program" 2>&1 </dev/null) || stop "the program does not start on this machine: $said"
     { true 4<&0 && true 4>&1; } 2>/dev/null || { say "standard input or standard output is closed"; exit 1; }
-    "${run[@]}"
+    { said=$("$program" 2>&1 >&3 3>&-); } 3>&1
     status=$?
+    [ -z "$said" ] || printf '%s\n' "${said#Error: }" >&2
     [ "$status" -le 1 ] || stop "the program ended with status $status"
     exit "$status"
 }

@@ -3,12 +3,9 @@
  * Link it with the library: target/staticlib/libdampmeadow.a, which `./library` builds for x86-64 Linux. Its
  * objects are in Linux's format, ELF, which the linkers of other systems do not take.
  *
- *   cc -I include program.c target/staticlib/libdampmeadow.a -lm
+ *   cc -I include program.c target/staticlib/libdampmeadow.a
  *
- * The library needs one function from outside, fmodf, the remainder of two floats, and nothing else. Every program that links
- * it needs fmodf, whatever it calls. It is in the C library's mathematics, libm: hence the -lm, which stands after the library
- * that asks for it. A controller without a C library supplies its own, a function float fmodf(float, float) that gives the
- * exact remainder: docs/GUIDE.md has what is asked of it, and bindings/c/fmodf.c is one.
+ * The library needs nothing from outside, neither a C library nor its mathematics.
  *
  * It keeps nothing between calls, so any number of threads may call it at once, each with memory of its own to be written: two
  * threads must not offer to one record of grain at once. It counts on the processor's usual float settings, in all calls but

@@ -4,7 +4,7 @@
  * Link it with one library of the two, for x86-64 Linux:
  *
  *   cc -I include program.c target/staticlib/libsoft.a                  these calls alone; `./library soft` builds it
- *   cc -I include program.c target/staticlib/libdampmeadow.a -lm        every call; `./library` builds it
+ *   cc -I include program.c target/staticlib/libdampmeadow.a            every call; `./library` builds it
  *
  * libsoft.a has no float instruction, and needs nothing from outside. The same holds of it for a 32-bit ARM without float hardware:
  * controller/run builds it for a Cortex-M3.

@@ -5,9 +5,6 @@
 //! else then. Else in the repository's target/staticlib, where `./library` writes it for x86-64, and in target/library, where
 //! `./library dampmeadow TARGET` writes it for another processor, in a folder of the target's name. One that is for another
 //! machine, or older than the crates it is built from, is not taken. To build it is to prove it first, which takes some minutes.
-//!
-//! The library asks for one function from outside, fmodf. Rust may bring one; for where it does not, the C library's
-//! mathematics, libm, is linked behind the library.
 
 use std::path::{Path, PathBuf};
 use std::process::{exit, Command};
@@ -24,10 +21,6 @@ fn main() {
             println!("cargo:rerun-if-changed={}", folder.join(LIBRARY).display());
             println!("cargo:rustc-link-search=native={}", folder.display());
             println!("cargo:rustc-link-lib=static=dampmeadow");
-            // behind the library, since a linker looks for a name in what follows; musl has it in its libc, which Rust links
-            if env::var("CARGO_CFG_TARGET_ENV").as_deref() != Ok("musl") {
-                println!("cargo:rustc-link-lib=m");
-            }
         }
         Err(why) => {
             eprintln!("dampmeadow: {why}");

@@ -30,9 +30,8 @@
 //! controller without floats: four operations and four kernels on words, with whole numbers alone. The library itself keeps
 //! nothing between calls, so they may be made from any thread.
 //!
-//! The build script finds the library, or proves and builds it, which takes a minute or two the first time; where it cannot, it
-//! says what is missing. The library asks for one function from outside, `fmodf`: it is Rust's own where Rust brings one, and
-//! else that of the C library's mathematics, libm, which is linked too.
+//! The build script finds the library, or proves and builds it, which takes some minutes the first time; where it cannot, it
+//! says what is missing. The library needs nothing from outside.
 
 #![no_std]
 #![deny(unsafe_op_in_unsafe_fn)]
