@@ -5,10 +5,10 @@ libraries=$root/target/staticlib
 
 # Builds libraries/lib$1.a, for every x86-64 processor, if the crates or the kit have changed since it was last built; with a target,
 # and words for the compiler, target/library/TARGET/lib$1.a for that, and if the words have changed. It is the library of the crate
-# $1_c where there is one: a crate that others stand on is no static library. For another processor the same module goes through the
-# same compiler with another target, by a kit that differs in nothing but that.
+# $1_c where there is one: a crate that others stand on is no static library. rt compiles for x86-64 and for aarch64. For another
+# processor the module for x86-64 goes through the same compiler with another target, by a kit that differs in nothing but that.
 library() {
-    local target=${2-} into crate=$1 by from log rt=rt
+    local target=${2-} into crate=$1 by from log rt=rt flags=(--cpu=x86-64)
     into=$libraries
     [ -z "$target" ] || into=$root/target/library/$target
     [ ! -d "$root/crates/$1_c" ] || crate=$1_c
@@ -17,13 +17,15 @@ library() {
     command -v rt >/dev/null || stop "rt is missing: it is the command of the Rattle kit, which proves and builds lib$1.a"
     mkdir -p "$into" || stop "cannot write to $into"
     say "building lib$1.a${target:+ for $target}"
-    if [ -n "$target" ]; then
+    if [ "$target" = aarch64-unknown-linux-gnu ]; then
+        flags=(--target "$target")
+    elif [ -n "$target" ]; then
         own_kit "$(dirname "$(rt doc)")" "$into/kit" --target="$target" "${@:3}"
         rt=$into/kit/bin/rt
     fi
     from=$root/crates/$crate/out/lib$crate.a
     log=$into/$1.log
-    (cd "$root/crates/$crate" && "$rt" lib --cpu=x86-64) </dev/null >"$log" 2>&1 && mv "$from" "$into/lib$1.a" && printf '%s\n' "$by" >"$into/$1.by" && return
+    (cd "$root/crates/$crate" && "$rt" lib "${flags[@]}") </dev/null >"$log" 2>&1 && mv "$from" "$into/lib$1.a" && printf '%s\n' "$by" >"$into/$1.by" && return
     tail -n 20 "$log" >&2
     stop "lib$1.a was not built"
 }
