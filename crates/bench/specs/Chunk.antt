@@ -1,5 +1,5 @@
 -- What is done with the bytes of a read, as far as a contract can speak of it: how much of them is answered at a time, and which line is then begun.
--- What standard output took it cannot say. Definitions only.
+-- What is written of it says Written.antt. Definitions only.
 use Rattle.std.specs.Prelude.{ℕ, ◌-◌, ◌≡◌, true, List, length, drop}
 use Rattle.lines.specs.declared.Lines.{Lines}
 use Rattle.lines.specs.Held.{after, front}

@@ -1,5 +1,5 @@
 -- The turns of a run, as far as a contract can speak of them: each takes the bytes that a read has brought, and the next one begins with the
--- line that it leaves. Which bytes those are, and whether the input has ended, only the read knows. Definitions only.
+-- line that it leaves. Which bytes those are, and whether the input has ended, the read knows. Definitions only.
 use Rattle.std.specs.Prelude.{ℕ, ◌≤◌, ◌<◌, ◌≡◌, true, List, [], ◌∷◌, length, take, min, Result, Ok, Err, IsOkAnd}
 use Rattle.lines.specs.declared.Lines.{Lines}
 use Rattle.lines.specs.Lines.{joined}

@@ -1,8 +1,8 @@
 // Answers recipes: each line of standard input is x as eight digits, a blank and a recipe, and its
 // answer, to standard output, is eleven bytes as a frame's, one a line in their order. It holds a
 // buffer of 65,536 bytes for what is read and the first 250 bytes of the line begun, whatever the
-// input is. No contract says what standard input brings and what standard output takes, or that each
-// line is answered as it ends; docs/EXCEPTIONS.md has what is stated, and what shows the rest.
+// input is. No contract says what standard input brings and what standard output takes; of known bytes
+// `run` says that each line is answered, in order. docs/EXCEPTIONS.md has what shows the rest.
 #![tactic(auto)]
 
 ghost use Rattle.std.specs.Prelude.{◌≡◌, ◌<◌, ℕ, List, true, false, length, take, Ok, Err, IfOk, IfErr, IfSome, OnOk, OnErr, IsOkAnd};
