@@ -8,7 +8,7 @@ libraries=$root/target/staticlib
 # $1_c where there is one: a crate that others stand on is no static library. rt compiles for x86-64 and for aarch64. For another
 # processor the module for x86-64 goes through the same compiler with another target, by a kit that differs in nothing but that.
 library() {
-    local target=${2-} into crate=$1 by from log rt=rt flags=(--cpu=x86-64)
+    local target=${2-} into crate=$1 by from log kit='' rt=rt built flags=(--cpu=x86-64)
     into=$libraries
     [ -z "$target" ] || into=$root/target/library/$target
     [ ! -d "$root/crates/$1_c" ] || crate=$1_c
@@ -20,12 +20,17 @@ library() {
     if [ "$target" = aarch64-unknown-linux-gnu ]; then
         flags=(--target "$target")
     elif [ -n "$target" ]; then
-        own_kit "$(dirname "$(rt doc)")" "$into/kit" --target="$target" "${@:3}"
-        rt=$into/kit/bin/rt
+        # not in the repository, where rt takes no links
+        kit=$(mktemp -d) || stop "cannot write to the folder for temporary files"
+        own_kit "$(dirname "$(rt doc)")" "$kit" --target="$target" "${@:3}"
+        rt=$kit/bin/rt
     fi
     from=$root/crates/$crate/out/lib$crate.a
     log=$into/$1.log
-    (cd "$root/crates/$crate" && "$rt" lib "${flags[@]}") </dev/null >"$log" 2>&1 && mv "$from" "$into/lib$1.a" && printf '%s\n' "$by" >"$into/$1.by" && return
+    (cd "$root/crates/$crate" && "$rt" lib "${flags[@]}") </dev/null >"$log" 2>&1 && mv "$from" "$into/lib$1.a" && printf '%s\n' "$by" >"$into/$1.by"
+    built=$?
+    [ -z "$kit" ] || rm -rf "$kit"
+    [ $built -ne 0 ] || return 0
     tail -n 20 "$log" >&2
     stop "lib$1.a was not built"
 }
@@ -33,7 +38,7 @@ library() {
 # $2 becomes links to all of the kit $1 but its clang, which is called with the words after them, and its rt, which takes the kit that
 # it lies in, links followed
 own_kit() {
-    rm -rf "$2" && mkdir -p "$2/bin" "$2/toolchain/bin" || stop "cannot write to $2"
+    mkdir -p "$2/bin" "$2/toolchain/bin" || stop "cannot write to $2"
     ln -s "$1"/* "$2/" 2>/dev/null
     ln -s "$1/bin"/* "$2/bin/"
     ln -s "$1/toolchain"/* "$2/toolchain/" 2>/dev/null
