@@ -15,8 +15,9 @@ use Rattle.std.specs.Io.KnownBytes.{Appends}
 use Rattle.std.proofs.KnownBytes.{Appends-trans}
 use Rattle.bench.specs.declared.Done.{Done}
 use Rattle.bench.specs.Chunk.{rest, Steps}
-use Rattle.bench.specs.Written.{AppendsFront}
-use Rattle.bench.proofs.Written.{from_cut, held_long, front_after, front_of_more}
+use Rattle.bench.proofs.Written.{from_cut, held_long}
+use Rattle.pipe.specs.Known.{AppendsFront}
+use Rattle.pipe.proofs.Front.{front_after, front_of_more}
 
 -- ---- a step
 

@@ -1,14 +1,14 @@
 -- What is written: the answers to some bytes and then to others are those to all of them, and the first of what is due. Assumes nothing.
-use Prim.Native.Nat.{ℕ, zero, suc, ◌+◌, ◌-◌, ◌≤◌, ◌<◌, min}
+use Prim.Native.Nat.{ℕ, zero, suc, ◌<◌, min}
 use native.Mathlib.Omega.{arith}
 use mathlib.Core.Path.{◌≡◌, refl, sym, ap, subst, ◌∙◌}
 use mathlib.Core.List.{List, [], ◌∷◌, ◌++◌, append-nil, append_assoc}
-use lib.ListN.{length, take, drop, length-take, length-drop}
-use lib.Seq.{take_all, take-add, take-append-add}
+use lib.ListN.{length, take, length-take}
+use lib.Seq.{take_all}
 use Rattle.std.specs.Prelude.{Option, Some, None, Result, Ok, Err, IfSome, OnErr}
 use Rattle.std.specs.Io.{ReadsAtMost}
 use Rattle.std.specs.Io.KnownBytes.{Appends, ReadConsumes}
-use Rattle.std.proofs.KnownBytes.{Appends-nil, Appends-trans, Consumes-trans}
+use Rattle.std.proofs.KnownBytes.{Appends-trans, Consumes-trans}
 use Rattle.frame.specs.Frame.{answer_bytes}
 use Rattle.lines.specs.declared.Lines.{Lines}
 use Rattle.lines.specs.Lines.{pending, answers_of}
@@ -16,7 +16,9 @@ use Rattle.lines.specs.Held.{line_of, fresh, Holds, after, answers_from, last_an
 use Rattle.lines.proofs.Cutting.{answers_cut}
 use Rattle.lines.proofs.Holding.{after_holds, from_line, after_cut}
 use Rattle.lines.proofs.Runs.{whole_run}
-use Rattle.bench.specs.Written.{AppendsFront, Answered, due, due_for}
+use Rattle.bench.specs.Written.{Answered, due, due_for}
+use Rattle.pipe.specs.Known.{AppendsFront}
+use Rattle.pipe.proofs.Front.{all_in_front, none_in_front, front_after, front_of_more}
 
 -- ---- the answers to bytes that are cut in two
 
@@ -38,46 +40,6 @@ due_cut s x y h =
 -- from no line begun it is the answers of the whole input
 pub due_all : (input : List ℕ) → due fresh input ≡ answers_of answer_bytes input
 due_all input = whole_run (input ∷ []) ∙ ap (answers_of answer_bytes) (append-nil input)
-
--- ---- the first of some bytes
-
-pub all_in_front : (a b : Option (List ℕ)) (bytes : List ℕ) → Appends a b bytes → AppendsFront a b bytes
-all_in_front a b bytes p = (length bytes, rw (take_all (length bytes) bytes (omega arith)) p)
-
-pub none_in_front : (a : Option (List ℕ)) (bytes : List ℕ) → AppendsFront a a bytes
-none_in_front a bytes = (0, Appends-nil a)
-
-pub front_after : (a b c : Option (List ℕ)) (bytes more : List ℕ) → Appends a b bytes → AppendsFront b c more → AppendsFront a c (bytes ++ more)
-front_after a b c bytes more p q = (length bytes + q.0, rw (take-append-add bytes more q.0) (Appends-trans a b c bytes (take q.0 more) p q.1))
-
-take_of_part : (n : ℕ) (bytes more : List ℕ) → take (length (take n bytes)) (bytes ++ more) ≡ take n bytes
-take_of_part zero bytes more = refl
-take_of_part (suc n) [] more = refl
-take_of_part (suc n) (b ∷ bs) more = ap {B = List ℕ} (λ (l : List ℕ). b ∷ l) (take_of_part n bs more)
-
-pub front_of_more : (a b : Option (List ℕ)) (bytes more : List ℕ) → AppendsFront a b bytes → AppendsFront a b (bytes ++ more)
-front_of_more a b bytes more p = (length (take p.0 bytes), rw (take_of_part p.0 bytes more) p.1)
-
-pub on_err : {T E P : Type 0} (r : Result T E) → P → OnErr r P
-on_err (Ok v) p = tt
-on_err (Err e) p = p
-
--- ---- some bytes written in parts
-
--- the bytes that are left of them, as they are lent
-abbrev pub lent : List ℕ → ℕ → List ℕ
-lent bytes done = take (length bytes - done) (drop done bytes)
-
-pub lent_is : (bytes : List ℕ) (done : ℕ) → lent bytes done ≡ drop done bytes
-lent_is bytes done = take_all (length bytes - done) (drop done bytes) (omega (arith, length-drop done bytes))
-
-pub within : (bytes : List ℕ) (done n : ℕ) → done ≤ length bytes → n ≤ length (lent bytes done) → done + n ≤ length bytes
-within bytes done n h k = omega (arith, ap length (lent_is bytes done), length-drop done bytes)
-
-pub one_more : (a b c : Option (List ℕ)) (bytes : List ℕ) (done n : ℕ) → Appends a b (take done bytes) → Appends b c (take n (lent bytes done))
-    → Appends a c (take (done + n) bytes)
-one_more a b c bytes done n p q =
-    rw take-add (Appends-trans a b c (take done bytes) (take n (drop done bytes)) p (rw lent_is at q))
 
 -- ---- a read
 

@@ -1,15 +1,11 @@
 -- The turns of a run, as far as a contract can speak of them: each takes the bytes that a read has brought, and the next one begins with the
 -- line that it leaves. Which bytes those are, and whether the input has ended, the read knows. Definitions only.
-use Rattle.std.specs.Prelude.{ℕ, ◌≤◌, ◌<◌, ◌≡◌, true, List, [], ◌∷◌, length, take, min, Result, Ok, Err, IsOkAnd}
+use Rattle.std.specs.Prelude.{ℕ, ◌≤◌, ◌<◌, ◌≡◌, true, List, [], ◌∷◌, length, take, Result, IsOkAnd}
 use Rattle.lines.specs.declared.Lines.{Lines}
 use Rattle.lines.specs.Lines.{joined}
 use Rattle.lines.specs.Held.{fresh, after}
 use Rattle.bench.specs.declared.State.{State}
-
--- how many bytes a read brought: none where it failed, and no more than there was room for
-abbrev pub brought : {E : Type 0} → Result ℕ E → ℕ → ℕ
-brought (Ok n) most = min n most
-brought (Err e) most = 0
+use Rattle.pipe.specs.Known.{brought}
 
 -- what is done with what a read answered: only where it brought some bytes does the run go on, with the line begun after all of them
 pub record TookAll {E : Type 0} (s : Lines) (got : Result ℕ E) (buffer : List ℕ) (t : Lines) : Type 0 where

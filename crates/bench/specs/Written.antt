@@ -4,10 +4,6 @@ use Rattle.std.specs.Io.KnownBytes.{Appends, Consumes}
 use Rattle.lines.specs.declared.Lines.{Lines}
 use Rattle.lines.specs.Held.{after, answers_from, last_answer}
 
--- the first of some bytes are added, however many those are
-abbrev pub AppendsFront : Option (List ℕ) → Option (List ℕ) → List ℕ → Type 0
-AppendsFront held held' bytes = (n : ℕ) × Appends held held' (take n bytes)
-
 -- some bytes were taken from the reader, the answers to the lines that end in them were added to what the writer holds, and t is the line then begun
 pub record Answered (s : Lines) (left left' held held' : Option (List ℕ)) (t : Lines) : Type 0 where
   pub bytes : List ℕ

@@ -11,11 +11,13 @@ ghost use Rattle.lines.specs.Lines.{answers_of};
 ghost use Rattle.lines.specs.Held.{answers_from, front, last_answer};
 ghost use Rattle.bench.specs.Chunk.{Steps, Answers, rest};
 ghost use Rattle.bench.specs.Turns.{Takes, Turns, Runs};
-ghost use Rattle.bench.specs.Written.{AppendsFront, Answered, due, due_for};
+ghost use Rattle.bench.specs.Written.{Answered, due, due_for};
+ghost use Rattle.pipe.specs.Known.{AppendsFront};
 
 use lines::Lines;
-use std::io::{ErrorKind, Read, Write};
-use std::{fmt, io};
+use pipe::{Fault, write};
+use std::io;
+use std::io::{Read, Write};
 
 // Where a run stands: the line begun, and whether it goes on.
 #[derive(Clone, Copy)]
@@ -29,23 +31,6 @@ pub struct State {
 struct Done {
     lines: Lines,
     read: usize,
-}
-
-// Why a run ended before its input did.
-#[derive(Clone, Copy)]
-pub enum Fault {
-    Input(io::Error),
-    Output(io::Error),
-}
-
-// In words, as `main` prints what it ends with.
-impl fmt::Debug for Fault {
-    fn fmt<W: fmt::Write>(&self, f: &mut fmt::Formatter<W>) -> fmt::Result {
-        match self {
-            Fault::Input(e) => write!(f, "standard input: {e}"),
-            Fault::Output(e) => write!(f, "standard output: {e}"),
-        }
-    }
 }
 
 // Reads until the input ends, and answers as the lines end. A read or a write that fails ends the run.
@@ -227,20 +212,4 @@ fn write_last<W: Write>(lines: Lines, output: &mut W, answer: &[u8]) -> Result<(
     ensures first { OnErr result (AppendsFront (W.contents output.old) (W.contents output.new) (last_answer lines)) }
 {
     write(output, answer)
-}
-
-// Writes some bytes, all of them or up to the first write that fails or takes none.
-fn write<W: Write>(output: &mut W, bytes: &[u8]) -> Result<(), Fault>
-    ensures written { OnOk result (Appends (W.contents output.old) (W.contents output.new) bytes.now) }
-    ensures first { OnErr result (AppendsFront (W.contents output.old) (W.contents output.new) bytes.now) }
-{
-    let mut done = 0;
-    while done < bytes.len() {
-        match output.write(&bytes[done..]) {
-            Ok(0) => return Err(Fault::Output(io::Error::from(ErrorKind::WriteZero))),
-            Ok(n) => done += n,
-            Err(e) => return Err(Fault::Output(e)),
-        }
-    }
-    Ok(())
 }

@@ -1,7 +1,7 @@
 // Answers the frames of standard input.
 #![tactic(auto)]
 
-use bench::Fault;
+use pipe::Fault;
 
 fn main(rt: HostRuntime) -> Result<(), Fault> {
     bench::run(&mut rt.stdin(), &mut rt.stdout())?;

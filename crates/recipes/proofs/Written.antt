@@ -1,12 +1,12 @@
 -- What is written: an answer to each line, in order, and the first of what is due. Assumes nothing.
-use Prim.Native.Nat.{ℕ, zero, suc, ◌+◌, ◌-◌, ◌≤◌, ◌<◌, min}
+use Prim.Native.Nat.{ℕ, zero, suc, ◌+◌, ◌<◌, min}
 use native.Mathlib.Omega.{arith}
 use native.Mathlib.Numerals.{add-one}
 use mathlib.Core.Path.{◌≡◌, refl, sym, ap, subst, ◌∙◌}
 use mathlib.Core.List.{List, [], ◌∷◌, ◌++◌, append-nil, append_assoc}
 use borrow.Author.Tests.{eq-eqb, ne_eqb}
-use lib.ListN.{length, take, drop, get_or, length-take, length-drop, take-append-drop}
-use lib.Seq.{take_all, take-add, take-suc, take-append-add}
+use lib.ListN.{length, take, drop, get_or, length-take, take-append-drop}
+use lib.Seq.{take_all, take-suc, take-append-add}
 use Rattle.std.specs.Prelude.{true, false, Option, Some, None, Result, Ok, Err, IfSome, IfOk, OnOk, OnErr, IsOkAnd}
 use Rattle.std.specs.Io.{ReadsAtMost}
 use Rattle.std.specs.Io.KnownBytes.{Appends, ReadConsumes}
@@ -17,8 +17,10 @@ use Rattle.lines.specs.Lines.{newline, lines_of, completed, pending, last_line}
 use Rattle.lines.proofs.Cutting.{completed_cut, pending_cut, lines_of_is}
 use Rattle.recipes.specs.declared.Begun.{Begun}
 use Rattle.recipes.specs.declared.State.{State}
-use Rattle.recipes.specs.Held.{Holds, Tells, Leaves, brought}
-use Rattle.recipes.specs.Written.{AreAnswers, Adds, AppendsFront, AddsFirst, Answered, due, due_for}
+use Rattle.pipe.specs.Known.{AppendsFront, brought}
+use Rattle.pipe.proofs.Front.{front_after, take_of_part}
+use Rattle.recipes.specs.Held.{Holds, Tells, Leaves}
+use Rattle.recipes.specs.Written.{AreAnswers, Adds, AddsFirst, Answered, due, due_for}
 use Rattle.recipes.proofs.Holding.{enough}
 
 -- ---- answers to lines
@@ -49,18 +51,10 @@ adds_all_first ls a b p =
     let f : take (length p.0) p.0 ≡ p.0 = take_all (length p.0) p.0 (omega arith) in
     (length ls, p.0, subst (λ (k : List (List ℕ)). AreAnswers k p.0) (sym e) p.1, (length p.0, subst (Appends a b) (sym f) p.2))
 
-pub front_after : (a b c : Option (List ℕ)) (bytes more : List ℕ) → Appends a b bytes → AppendsFront b c more → AppendsFront a c (bytes ++ more)
-front_after a b c bytes more p q = (length bytes + q.0, rw (take-append-add bytes more q.0) (Appends-trans a b c bytes (take q.0 more) p q.1))
-
 pub first_after : (ks ls : List (List ℕ)) (a b c : Option (List ℕ)) → Adds ks a b → AddsFirst ls b c → AddsFirst (ks ++ ls) a c
 first_after ks ls a b c p q =
     let e : take (length ks + q.0) (ks ++ ls) ≡ ks ++ take q.0 ls = take-append-add ks ls q.0 in
     (length ks + q.0, p.0 ++ q.1, subst (λ (k : List (List ℕ)). AreAnswers k (p.0 ++ q.1)) (sym e) (are_append ks (take q.0 ls) p.0 q.1 p.1 q.2), front_after a b c p.0 q.1 p.2 q.3)
-
-take_of_part : (n : ℕ) (ks ls : List (List ℕ)) → take (length (take n ks)) (ks ++ ls) ≡ take n ks
-take_of_part zero ks ls = refl
-take_of_part (suc n) [] ls = refl
-take_of_part (suc n) (k ∷ ks) ls = ap {B = List (List ℕ)} (λ (l : List (List ℕ)). k ∷ l) (take_of_part n ks ls)
 
 pub first_of_more : (ks ls : List (List ℕ)) (a b : Option (List ℕ)) → AddsFirst ks a b → AddsFirst (ks ++ ls) a b
 first_of_more ks ls a b p =
@@ -78,23 +72,6 @@ pub first_line : (p : List ℕ) (s : Begun) (a b : Option (List ℕ)) → Holds 
 first_line p s a b h t =
     let e = enough p t.0 s h t.1 in
     (1, words_bytes e.0, are_one p e.0 e.1, subst (AppendsFront a b) e.2 t.2)
-
--- ---- some bytes written in parts
-
--- the bytes that are left of them, as they are lent
-abbrev pub lent : List ℕ → ℕ → List ℕ
-lent bytes done = take (length bytes - done) (drop done bytes)
-
-pub lent_is : (bytes : List ℕ) (done : ℕ) → lent bytes done ≡ drop done bytes
-lent_is bytes done = take_all (length bytes - done) (drop done bytes) (omega (arith, length-drop done bytes))
-
-pub within : (bytes : List ℕ) (done n : ℕ) → done ≤ length bytes → n ≤ length (lent bytes done) → done + n ≤ length bytes
-within bytes done n h k = omega (arith, ap length (lent_is bytes done), length-drop done bytes)
-
-pub one_more : (a b c : Option (List ℕ)) (bytes : List ℕ) (done n : ℕ) → Appends a b (take done bytes) → Appends b c (take n (lent bytes done))
-    → Appends a c (take (done + n) bytes)
-one_more a b c bytes done n p q =
-    rw take-add (Appends-trans a b c (take done bytes) (take n (drop done bytes)) p (rw lent_is at q))
 
 -- ---- the last line
 
@@ -274,7 +251,3 @@ pub all_is_first : (left held held' : Option (List ℕ)) → IfSome left (λ byt
     → IfSome left (λ bytes. AddsFirst (lines_of bytes) held held')
 all_is_first None held held' p = tt
 all_is_first (Some xs) held held' p = adds_all_first (lines_of xs) held held' p
-
-pub on_err : {T E P : Type 0} (r : Result T E) → P → OnErr r P
-on_err (Ok v) p = tt
-on_err (Err e) p = p

@@ -1,5 +1,5 @@
 -- What is held of the line begun, and what is written to answer a line. Definitions only.
-use Rattle.std.specs.Prelude.{ℕ, ◌≡◌, true, List, length, take, min, Result, Ok, Err}
+use Rattle.std.specs.Prelude.{ℕ, ◌≡◌, true, List, length, take}
 use Rattle.frame.specs.Frame.{words_bytes}
 use Rattle.recipe.specs.Entry.{AnswersEntry}
 use Rattle.lines.specs.Lines.{pending}
@@ -20,11 +20,6 @@ pub record Tells (s : Begun) (answer : List ℕ) : Type 0 where
   pub words : ℕ
   pub answers : AnswersEntry (line_of s) words
   pub bytes : answer ≡ words_bytes words
-
--- how many bytes a read brought: none where it failed, and no more than there was room for
-abbrev pub brought : {E : Type 0} → Result ℕ E → ℕ → ℕ
-brought (Ok n) most = min n most
-brought (Err e) most = 0
 
 -- what some bytes leave begun, where the run goes on: of any line that was begun, what is then begun of it or of a later one
 abbrev pub Leaves : Begun → List ℕ → State → Type 0

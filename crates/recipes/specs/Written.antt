@@ -7,6 +7,7 @@ use Rattle.recipe.specs.Entry.{AnswersEntry}
 use Rattle.lines.specs.Lines.{completed, pending, last_line}
 use Rattle.recipes.specs.declared.Begun.{Begun}
 use Rattle.recipes.specs.Held.{Holds}
+use Rattle.pipe.specs.Known.{AppendsFront}
 
 -- the bytes are an answer to each of some lines, one after the other
 abbrev pub AreAnswers : List (List ℕ) → List ℕ → Type 0
@@ -16,10 +17,6 @@ AreAnswers (l ∷ ls) out = (w : ℕ) × (more : List ℕ) × AnswersEntry l w �
 -- answers to some lines are added to what the writer holds
 abbrev pub Adds : List (List ℕ) → Option (List ℕ) → Option (List ℕ) → Type 0
 Adds ls held held' = (out : List ℕ) × AreAnswers ls out × Appends held held' out
-
--- the first of some bytes are added, however many those are
-abbrev pub AppendsFront : Option (List ℕ) → Option (List ℕ) → List ℕ → Type 0
-AppendsFront held held' bytes = (n : ℕ) × Appends held held' (take n bytes)
 
 -- answers to the first of some lines are added, and of the last of these answers maybe not all bytes
 abbrev pub AddsFirst : List (List ℕ) → Option (List ℕ) → Option (List ℕ) → Type 0

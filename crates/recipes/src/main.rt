@@ -9,12 +9,14 @@ ghost use Rattle.std.specs.Prelude.{◌≡◌, ◌<◌, ℕ, List, true, false, 
 ghost use Rattle.std.specs.Io.KnownBytes.{Appends};
 ghost use Rattle.recipe.specs.Entry.{AnswersEntry};
 ghost use Rattle.lines.specs.Lines.{lines_of, completed, last_line};
-ghost use Rattle.recipes.specs.Held.{Holds, Leaves, Tells, brought};
-ghost use Rattle.recipes.specs.Written.{Adds, AddsFirst, AppendsFront, Answered, due, due_for};
+ghost use Rattle.pipe.specs.Known.{AppendsFront, brought};
+ghost use Rattle.recipes.specs.Held.{Holds, Leaves, Tells};
+ghost use Rattle.recipes.specs.Written.{Adds, AddsFirst, Answered, due, due_for};
 
+use pipe::Fault;
 use recipe::entry;
-use std::io::{ErrorKind, Read, Write};
-use std::{fmt, io};
+use std::io;
+use std::io::{Read, Write};
 
 // The line begun and not ended yet: its first bytes, and how many they are. With x and the blank a
 // recipe of 240 bytes makes 249, so one more says that it is too long, whatever follows.
@@ -31,23 +33,6 @@ const KEPT: usize = 250;
 struct State {
     begun: Begun,
     goes_on: bool,
-}
-
-// Why a run ended before its input did.
-#[derive(Clone, Copy)]
-enum Fault {
-    Input(io::Error),
-    Output(io::Error),
-}
-
-// In words, as `main` prints what it ends with.
-impl fmt::Debug for Fault {
-    fn fmt<W: fmt::Write>(&self, f: &mut fmt::Formatter<W>) -> fmt::Result {
-        match self {
-            Fault::Input(e) => write!(f, "standard input: {e}"),
-            Fault::Output(e) => write!(f, "standard output: {e}"),
-        }
-    }
 }
 
 fn main(rt: HostRuntime) -> Result<(), Fault> {
@@ -201,19 +186,11 @@ fn words_of(held: &[u8; KEPT], count: usize) -> u64
     entry::answer(line)
 }
 
-// Writes the answer to the line held, all of it or up to the first write that fails or takes none.
+// Writes the answer to the line held.
 fn write<W: Write>(begun: Begun, output: &mut W, answer: &[u8]) -> Result<(), Fault>
     requires { Tells begun answer.now }
     ensures written { OnOk result (Appends (W.contents output.old) (W.contents output.new) answer.now) }
     ensures first { OnErr result (AppendsFront (W.contents output.old) (W.contents output.new) answer.now) }
 {
-    let mut done = 0;
-    while done < answer.len() {
-        match output.write(&answer[done..]) {
-            Ok(0) => return Err(Fault::Output(io::Error::from(ErrorKind::WriteZero))),
-            Ok(n) => done += n,
-            Err(e) => return Err(Fault::Output(e)),
-        }
-    }
-    Ok(())
+    pipe::write(output, answer)
 }

@@ -1,7 +1,7 @@
 -- `bench::answered` steps through the chunk: each step leaves fewer bytes, and adds their answers.
 use Rattle.std.proofs.Common.{arith, rules, ◌≡◌, length}
 use Rattle.bench.proofs.Chunk.{not_past, fewer, onward, written_on, first_of_chunk}
-use Rattle.bench.proofs.Written.{on_err}
+use Rattle.pipe.proofs.Front.{on_err}
 use Rattle.bench.proofs.answered.Goals as goal
 
 pub overflow_sub-left : goal.overflow_sub-left

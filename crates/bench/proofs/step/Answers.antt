@@ -1,7 +1,7 @@
 -- `bench::step` feeds what is left of the chunk, and what it hands to the write are the answers to the bytes read.
 use Rattle.std.proofs.Common.{arith, ◌+◌, ◌-◌, ◌≤◌, length}
 use Rattle.bench.proofs.Chunk.{ends_within, handed, part_is}
-use Rattle.bench.proofs.Written.{on_err}
+use Rattle.pipe.proofs.Front.{on_err}
 use Rattle.bench.proofs.step.Goals as goal
 
 pub overflow_add-to : goal.overflow_add-to

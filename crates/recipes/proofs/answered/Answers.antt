@@ -5,7 +5,8 @@ use Rattle.lines.specs.Lines.{completed}
 use Rattle.recipes.specs.Held.{Holds}
 use Rattle.recipes.specs.Written.{AddsFirst}
 use Rattle.recipes.proofs.Holding.{ends_a_line, is_kept, is_passed_over, all_read}
-use Rattle.recipes.proofs.Written.{told, told_first, no_line_more, on_err}
+use Rattle.recipes.proofs.Written.{told, told_first, no_line_more}
+use Rattle.pipe.proofs.Front.{on_err}
 use Rattle.recipes.proofs.answered.Goals as goal
 
 pub returns-in_err-tell-clause-first : goal.returns-in_err-tell-clause-first

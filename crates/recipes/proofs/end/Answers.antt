@@ -3,7 +3,8 @@ use Rattle.std.proofs.Common.{ℕ, List}
 use Rattle.lines.specs.Lines.{last_line}
 use Rattle.recipes.specs.Held.{Holds}
 use Rattle.recipes.specs.Written.{AddsFirst}
-use Rattle.recipes.proofs.Written.{is_last, one_line, first_line, on_err}
+use Rattle.recipes.proofs.Written.{is_last, one_line, first_line}
+use Rattle.pipe.proofs.Front.{on_err}
 use Rattle.recipes.proofs.end.Goals as goal
 
 pub returns-in_err-tell-clause-first : goal.returns-in_err-tell-clause-first

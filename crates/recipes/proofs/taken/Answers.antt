@@ -2,7 +2,8 @@
 use Rattle.std.proofs.Common.{rules, ◌≡◌, ◌≢◌, ℕ, List, Ok, min, length}
 use Rattle.recipes.specs.Held.{Holds}
 use Rattle.recipes.specs.Written.{AddsFirst, due_for}
-use Rattle.recipes.proofs.Written.{on_ok_some, on_err_some, on_err}
+use Rattle.recipes.proofs.Written.{on_ok_some, on_err_some}
+use Rattle.pipe.proofs.Front.{on_err}
 use Rattle.recipes.proofs.taken.Goals as goal
 
 pub returns-in_err-end-in-Ok-eq0-clause-first : goal.returns-in_err-end-in-Ok-eq0-clause-first

@@ -1,6 +1,6 @@
--- `recipes::write` has written the first of the bytes at each turn of its loop.
-use Rattle.recipes.proofs.Written.{within, one_more}
-use Rattle.recipes.proofs.write.Goals as goal
+-- `pipe::write` has written the first of the bytes at each turn of its loop.
+use Rattle.pipe.proofs.Front.{within, one_more}
+use Rattle.pipe.proofs.write.Goals as goal
 
 pub loop-done-preserved : goal.loop-done-preserved
 loop-done-preserved g c = record {

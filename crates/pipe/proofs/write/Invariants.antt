@@ -1,7 +1,7 @@
--- What `bench::write` has written so far.
+-- What `pipe::write` has written so far.
 use Rattle.std.proofs.Common.{length, take, ◌-◌, ◌≤◌}
 use Rattle.std.specs.Io.KnownBytes.{Appends}
-use Rattle.bench.proofs.write.Given as goal
+use Rattle.pipe.proofs.write.Given as goal
 
 abbrev pub invariant-loop-done : goal.invariant-loop-done
 invariant-loop-done g l = record {
