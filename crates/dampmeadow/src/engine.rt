@@ -1,4 +1,5 @@
-// The exported calls of the second engine, which has whole numbers alone.
+// The exported calls of the second engine, which has whole numbers alone. `soft_c` exports the same: a
+// library exports what its own crate marks, and no macro writes a clause.
 ghost use Rattle.std.specs.Prelude.{◌≡◌};
 ghost use Rattle.std.specs.Float.{binary32};
 ghost use Rattle.float.specs.Engine.{ieee};

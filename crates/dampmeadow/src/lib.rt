@@ -36,7 +36,7 @@ pub mod studio;
 pub extern "C" fn dampmeadow_words(op: u32, a: u32, b: u32) -> u64
     ensures { result ≡ words_of op a b }
 {
-    words::answer(op, a, b)
+    words::packed_answer(op, a, b)
 }
 
 // What a recipe, a line given without its newline, answers at x: the refusal number in the high 32
@@ -62,7 +62,7 @@ pub extern "C" fn dampmeadow_strip(
 ) -> u32
     ensures { Strips op first.now second.now answers.old refusals.old result answers.new refusals.new }
 {
-    strip::run(op, first, second, answers, refusals)
+    refusals::number(strip::run(op, first, second, answers, refusals))
 }
 
 // Answers a line, given without its newline: eleven bytes at the front of the space, the refusal in
@@ -73,7 +73,7 @@ pub extern "C" fn dampmeadow_answer(line: &[u8], space: &mut [u8]) -> u32
     ensures number { result ≡ returned line.now space.old }
     ensures bytes { space.new ≡ left line.now space.old }
 {
-    frame::answer(line, space)
+    frame::answer_number(line, space)
 }
 
 // atan_norm, which has no operation number: the arctangent as a share of a quarter turn.
@@ -101,9 +101,10 @@ pub extern "C" fn dampmeadow_parts(a: u32, whole: &mut u32, rest: &mut u32) -> u
     ensures rest { rest.new ≡ word_beside (refusal_of op_trunc a 0) (fract_word binary32 a) }
 {
     let answer = guard::parts(F32(a));
-    *whole = answer.word();
-    *rest = answer.second_word();
-    answer.refusal()
+    let words = guard::part_words(answer);
+    *whole = words.0;
+    *rest = words.1;
+    refusals::number(answer)
 }
 
 // How many products guarded powi forms for its answer to a word and a power: 0 where the call is
@@ -112,7 +113,7 @@ pub extern "C" fn dampmeadow_parts(a: u32, whole: &mut u32, rest: &mut u32) -> u
 pub extern "C" fn dampmeadow_powi_products(a: u32, n: i32) -> u32
     ensures { result ≡ products_given op_powi a (of_z w32 n) }
 {
-    guard::powi(F32(a), n).products
+    guard::products(guard::powi(F32(a), n))
 }
 
 // Raw floor, with the mark of the cast to an integer that it makes: the mark's number in the high 32
@@ -132,11 +133,10 @@ pub extern "C" fn dampmeadow_ceil_marked(a: u32) -> u64
     with_mark(F32(a).ceil_marked())
 }
 
-fn with_mark(marked: Marked) -> u64
-    ensures { result ≡ packed (number_of marked.mark) marked.number.0 }
+fn with_mark(marked: Marked<F32>) -> u64
+    ensures { result ≡ packed (number_of marked.mark) marked.value.0 }
 {
-    let mark = marked.mark;
-    mark.number() as u64 * 0x1_0000_0000 + marked.number.0 as u64
+    u32::from(marked.mark) as u64 * 0x1_0000_0000 + marked.value.0 as u64
 }
 
 // Offers a sample to a record of grain, which is changed in place: returns the refusal, 0 where the
@@ -145,7 +145,5 @@ fn with_mark(marked: Marked) -> u64
 pub extern "C" fn dampmeadow_grain_offer(grain: &mut Grain, sample: u32) -> u32
     ensures { Leaves grain.old sample result grain.new }
 {
-    let next = grain.offer(F32(sample));
-    *grain = next.grain;
-    next.refusal
+    refusals::number(grain.offer(F32(sample)))
 }

@@ -14,8 +14,8 @@ pub extern "C" fn dampmeadow_double(op: u32, a: u64, value: &mut u64) -> u32
     ensures word { value.new ≡ double_word op a }
 {
     let answer = words::answer(op, a);
-    *value = answer.word;
-    answer.refusal
+    *value = answer.unwrap_or(0);
+    refusals::number(answer)
 }
 
 // Which columns of which row are on screen, by the lengths of the scanned row and the retouched one:

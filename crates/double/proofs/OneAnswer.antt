@@ -2,30 +2,35 @@
 -- is to see. Assumes nothing.
 use contract.Lifetimes.{Lfts}
 use Rattle.format.proofs.Pinned.{OneAnswer, pinned}
-use Rattle.double.proofs.F64.from_bits.Reads as from_bits
-use Rattle.double.proofs.F64.to_bits.Reads as to_bits
+use Rattle.double.proofs.F64Number.from_bits.Reads as from_bits
+use Rattle.double.proofs.F64Number.to_bits.Reads as to_bits
+use Rattle.refusals.proofs.Given.{told, told_with}
 use Rattle.double.proofs.F64.value.Reads as value
 use Rattle.double.proofs.F64.of.Reads as of
-use Rattle.double.proofs.F64.is_nan.Reads as is_nan
-use Rattle.double.proofs.F64.is_sign_negative.Reads as is_sign_negative
-use Rattle.double.proofs.F64.is_sign_positive.Reads as is_sign_positive
-use Rattle.double.proofs.F64.without_sign.Reads as without_sign
-use Rattle.double.proofs.F64.copysign.Reads as copysign
-use Rattle.double.proofs.F64.extract_exponent_bits.Reads as extract_exponent_bits
-use Rattle.double.proofs.F64.exponent_clamped.Reads as exponent_clamped
-use Rattle.double.proofs.F64.trunc.Reads as trunc
-use Rattle.double.proofs.F64.fract.Reads as fract
-use Rattle.double.proofs.F64.sqrt.Reads as sqrt
-use Rattle.double.proofs.F64.inv.Reads as inv
-use Rattle.double.proofs.wrap.difference.Reads as difference
-use Rattle.double.proofs.wrap.shl.Reads as shl
-use Rattle.double.proofs.wrap.shr.Reads as shr
+use Rattle.double.proofs.F64Number.is_nan.Reads as is_nan
+use Rattle.double.proofs.F64Number.is_sign_negative.Reads as is_sign_negative
+use Rattle.double.proofs.F64Number.is_sign_positive.Reads as is_sign_positive
+use Rattle.double.proofs.F64Number.without_sign.Reads as without_sign
+use Rattle.double.proofs.F64Number.copysign.Reads as copysign
+use Rattle.double.proofs.F64Number.extract_exponent_bits.Reads as extract_exponent_bits
+use Rattle.double.proofs.F64Number.exponent_clamped.Reads as exponent_clamped
+use Rattle.double.proofs.F64Number.less_one.Reads as less_one
+use Rattle.double.proofs.F64Number.is_at_least_zero.Reads as is_at_least_zero
+use Rattle.double.proofs.F64Number.is_endless.Reads as is_endless
+use Rattle.double.proofs.F64Number.is_zero.Reads as is_zero
+use Rattle.double.proofs.F64Number.is_small.Reads as is_small
+use Rattle.double.proofs.F64Number.is_below_zero.Reads as is_below_zero
+use Rattle.double.proofs.F64Number.trunc.Reads as trunc
+use Rattle.double.proofs.F64Number.fract.Reads as fract
+use Rattle.double.proofs.F64Number.sqrt.Reads as sqrt
+use Rattle.double.proofs.F64Number.inv.Reads as inv
+use Rattle.format.proofs.words.U64Word.difference.Reads as difference
+use Rattle.format.proofs.words.U64Word.moved_up.Reads as moved_up
+use Rattle.format.proofs.words.U64Word.moved_down.Reads as moved_down
 use Rattle.double.proofs.gate.of.Reads as gate_of_reads
 use Rattle.double.proofs.gate.passes.Reads as gate_passes_reads
 use Rattle.double.proofs.refusal.first.Reads as first
-use Rattle.double.proofs.refusal.is_zero.Reads as is_zero
-use Rattle.double.proofs.guarded.Double.refusal.Reads as refusal
-use Rattle.double.proofs.guarded.Double.word.Reads as word
+use Rattle.double.proofs.guarded.word.Reads as word
 use Rattle.double.proofs.guarded.trunc.Reads as guarded_trunc_reads
 use Rattle.double.proofs.guarded.fract.Reads as guarded_fract_reads
 use Rattle.double.proofs.guarded.sqrt.Reads as guarded_sqrt_reads
@@ -39,7 +44,7 @@ module _ (κs : Lfts 0) where
   f64_from_bits = pinned _ (λ a r x p. p)
 
   pub f64_to_bits : OneAnswer (to_bits.Post κs) (λ r x. r)
-  f64_to_bits = pinned _ (λ a r x p. p)
+  f64_to_bits = pinned _ (λ a r x p. p.0)
 
   pub f64_value : OneAnswer (value.Post κs) (λ r x. r)
   f64_value = pinned _ (λ a r x p. p)
@@ -60,13 +65,31 @@ module _ (κs : Lfts 0) where
   f64_without_sign = pinned _ (λ a r x p. p)
 
   pub f64_copysign : OneAnswer (copysign.Post κs) (λ r x. r.0)
-  f64_copysign = pinned _ (λ a r x p. p)
+  f64_copysign = pinned _ (λ a r x p. p.0)
 
   pub f64_extract_exponent_bits : OneAnswer (extract_exponent_bits.Post κs) (λ r x. r)
   f64_extract_exponent_bits = pinned _ (λ a r x p. p)
 
   pub f64_exponent_clamped : OneAnswer (exponent_clamped.Post κs) (λ r x. r)
   f64_exponent_clamped = pinned _ (λ a r x p. p)
+
+  pub f64_less_one : OneAnswer (less_one.Post κs) (λ r x. r.0)
+  f64_less_one = pinned _ (λ a r x p. p)
+
+  pub f64_is_at_least_zero : OneAnswer (is_at_least_zero.Post κs) (λ r x. r)
+  f64_is_at_least_zero = pinned _ (λ a r x p. p)
+
+  pub f64_is_endless : OneAnswer (is_endless.Post κs) (λ r x. r)
+  f64_is_endless = pinned _ (λ a r x p. p)
+
+  pub f64_is_zero : OneAnswer (is_zero.Post κs) (λ r x. r)
+  f64_is_zero = pinned _ (λ a r x p. p)
+
+  pub f64_is_small : OneAnswer (is_small.Post κs) (λ r x. r)
+  f64_is_small = pinned _ (λ a r x p. p)
+
+  pub f64_is_below_zero : OneAnswer (is_below_zero.Post κs) (λ r x. r)
+  f64_is_below_zero = pinned _ (λ a r x p. p)
 
   -- ---- the raw kernels
   pub f64_trunc : OneAnswer (trunc.Post κs) (λ r x. r.0)
@@ -85,10 +108,10 @@ module _ (κs : Lfts 0) where
   pub wrap_difference : OneAnswer (difference.Post κs) (λ r x. r)
   wrap_difference = pinned _ (λ a r x p. p)
 
-  pub wrap_shl : OneAnswer (shl.Post κs) (λ r x. r)
+  pub wrap_shl : OneAnswer (moved_up.Post κs) (λ r x. r)
   wrap_shl = pinned _ (λ a r x p. p)
 
-  pub wrap_shr : OneAnswer (shr.Post κs) (λ r x. r)
+  pub wrap_shr : OneAnswer (moved_down.Post κs) (λ r x. r)
   wrap_shr = pinned _ (λ a r x p. p)
 
   -- ---- the gates and the refusals
@@ -99,17 +122,11 @@ module _ (κs : Lfts 0) where
   gate_passes = pinned _ (λ a r x p. p)
 
   pub refusal_first : OneAnswer (first.Post κs) (λ r x. r)
-  refusal_first = pinned _ (λ a r x p. p)
-
-  pub refusal_is_zero : OneAnswer (is_zero.Post κs) (λ r x. r)
-  refusal_is_zero = pinned _ (λ a r x p. p)
+  refusal_first = pinned _ (λ a r x p. told _ r p)
 
   -- ---- the guarded calls
-  pub double_refusal : OneAnswer (refusal.Post κs) (λ r x. r)
-  double_refusal = pinned _ (λ a r x p. p)
-
-  pub double_word : OneAnswer (word.Post κs) (λ r x. r)
-  double_word = pinned _ (λ a r x p. p)
+  pub guarded_word : OneAnswer (word.Post κs) (λ r x. r)
+  guarded_word = pinned _ (λ a r x p. p)
 
   pub guarded_trunc : OneAnswer (guarded_trunc_reads.Post κs) (λ r x. r)
   guarded_trunc = pinned _ (λ a r x p. p.0.answer)
@@ -127,8 +144,5 @@ module _ (κs : Lfts 0) where
   guarded_call = pinned _ (λ a r x p. p.answer)
 
   -- ---- by number, raw or guarded
-  pub words_answer : OneAnswer (answer.Post κs) (λ r x. r.refusal)
-  words_answer = pinned _ (λ a r x p. p.0)
-
-  pub words_answer_word : OneAnswer (answer.Post κs) (λ r x. r.word)
-  words_answer_word = pinned _ (λ a r x p. p.1)
+  pub words_answer : OneAnswer (answer.Post κs) (λ r x. r)
+  words_answer = pinned _ (λ a r x p. told_with _ _ 0 r p.0 p.1)

@@ -3,6 +3,7 @@ ghost use Rattle.std.specs.Prelude.{◌≡◌};
 ghost use Rattle.double.specs.Refusals.{gate_of, passes};
 
 use crate::F64;
+use format::Number;
 
 // Every finite magnitude passes.
 const OPEN: u64 = 0x7fef_ffff_ffff_ffff;
@@ -23,7 +24,7 @@ const GATES: [u64; 12] = [
     0x7fd0_0000_0000_0000, // inv: |x| to 2^1022
 ];
 
-// The row of an operation. A caller that names its operation has it folded in.
+// The row of an operation, of any number. A caller that names its operation has it folded in.
 pub fn of(op: u32) -> u64
     ensures { result ≡ gate_of op }
 {

@@ -8,7 +8,14 @@ use double::words;
 use std::io;
 use std::io::{ErrorKind, Read, Write};
 
-// The bytes of a line, its newline with them.
+// Where the digits of the operation end, where those of the word stand, and the bytes of a line, its
+// newline with them.
+const OP_END: usize = 2;
+
+const WORD: usize = 3;
+
+const WORD_END: usize = 19;
+
 const LINE: usize = 20;
 
 fn main(rt: HostRuntime) -> io::Result<()> {
@@ -19,58 +26,45 @@ fn main(rt: HostRuntime) -> io::Result<()> {
 // counted, up to a number that no list reaches.
 fn run<R: Read, W: Write>(input: &mut R, output: &mut W) -> io::Result<()> {
     for _ in 0..u64::MAX {
-        if !step(input, output)? {
+        let Some(line) = next(input)? else {
             return Ok(());
-        }
+        };
+        let op = (number(&line[..OP_END]) % 0x100) as u32;
+        tell(op, number(&line[WORD..WORD_END]), output)?;
     }
     Ok(())
 }
 
-// Reads one line and answers it, and says whether there was one.
-fn step<R: Read, W: Write>(input: &mut R, output: &mut W) -> io::Result<bool> {
+// The next line, where there is a whole one.
+fn next<R: Read>(input: &mut R) -> io::Result<Option<[u8; LINE]>> {
     let mut line = [0u8; LINE];
-    if let Err(e) = input.read_exact(&mut line) {
-        return if e.kind() == ErrorKind::UnexpectedEof {
-            Ok(false)
-        } else {
-            Err(e)
-        };
+    match input.read_exact(&mut line) {
+        Ok(()) => Ok(Some(line)),
+        Err(e) if e.kind() == ErrorKind::UnexpectedEof => Ok(None),
+        Err(e) => Err(e),
     }
-    let op = (number(&line, 0, 2) % 0x100) as u32;
-    let word = number(&line, 3, 19);
-    tell(op, word, output)?;
-    Ok(true)
 }
 
-// The number that the digits of a line write from a place up to another.
-fn number(line: &[u8; LINE], from: usize, to: usize) -> u64 {
-    let mut n: u64 = 0;
-    for i in from..to {
-        if i < LINE {
-            n = (n << 4) | digit(line[i]);
-        }
-    }
-    n
+// The number that some digits write; what is no digit counts as 0.
+fn number(digits: &[u8]) -> u64 {
+    digits
+        .iter()
+        .fold(0, |n, b| (n << 4) | digit(*b).unwrap_or(0) as u64)
 }
 
 // The value of a lower-case hexadecimal digit.
-fn digit(b: u8) -> u64 {
-    if b < 0x30 {
-        return 0;
+fn digit(b: u8) -> Option<u8> {
+    if b <= b'9' {
+        b.checked_sub(b'0')
+    } else {
+        b.checked_sub(b'a' - 10)
     }
-    if b <= 0x39 {
-        return (b - 0x30) as u64;
-    }
-    if b < 0x57 {
-        return 0;
-    }
-    (b - 0x57) as u64
 }
 
 // Writes the answer to a call.
 fn tell<W: Write>(op: u32, a: u64, output: &mut W) -> io::Result<()> {
     let answer = words::answer(op, a);
-    let refusal = answer.refusal;
-    let word = answer.word;
+    let refusal = refusals::number(answer);
+    let word = answer.unwrap_or(0);
     writeln!(output, "{refusal:02x} {word:016x}")
 }

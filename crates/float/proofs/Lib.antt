@@ -3,6 +3,7 @@ pub mod Signs
 mod Twos
 pub mod Squaring
 pub mod Products
+pub mod AtWidth
 pub mod OneAnswer
 pub mod Rows
 pub mod Examples

@@ -33,9 +33,9 @@ tells w = go (nan_bits binary32 w) (is_past binary32 31 w) (is_whole binary32 w)
     go false false true a b c = kept_told binary32 31 w b c
     go false false false a b c = cut_told binary32 31 w b c
 
--- the clauses of the cast, from two equations
-pub told : (w : ℕ) {z : ℤ} {m : Mark} → z ≡ to_signed 31 (of_bits binary32 w) → m ≡ mark_of w → (z ≡ to_signed 31 (of_bits binary32 w)) × ((m ≡ mark_of w) × Tells m w z)
-told w {z} e d = (e, (d, subst (λ (n : Mark). Tells n w z) (sym d) (subst (λ (y : ℤ). Tells (mark_of w) w y) (sym e) (tells w))))
+-- so of an integer and a mark that are the cast's
+pub told : (w : ℕ) {z : ℤ} {m : Mark} → z ≡ to_signed 31 (of_bits binary32 w) → m ≡ mark_of w → Tells m w z
+told w {z} e d = subst (λ (n : Mark). Tells n w z) (sym d) (subst (λ (y : ℤ). Tells (mark_of w) w y) (sym e) (tells w))
 
 -- no other mark does
 pub one_mark : (m : Mark) (w : ℕ) → Tells m w (to_signed 31 (of_bits binary32 w)) → m ≡ mark_of w
@@ -63,10 +63,6 @@ module _ (w : ℕ) (n : nan_bits binary32 w ≡ false) where
 
   pub mark_low : 158 ≤ exponent binary32 w → negative binary32 w ≡ true → (magnitude binary32 w ≡ 0x4f00_0000 → ⊥) → mark_of w ≡ Low
   mark_low h s d = rw (n, past_low w h s d, s)
-
-pub mark_least : (w : ℕ) → w ≡ 0xcf00_0000 → mark_of w ≡ Exact
-unfolding nan_bits
-mark_least w e = rw e
 
 -- ---- where nothing was clipped, marked 0 or 1, floor and ceil have their meaning
 

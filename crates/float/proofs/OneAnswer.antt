@@ -6,38 +6,45 @@ use lib.Ieee.{binary32, of_bits, to_signed}
 use Rattle.format.specs.Sign.{turned_word}
 use Rattle.format.specs.Whole.{floor_word, ceil_word}
 use Rattle.format.proofs.Pinned.{OneAnswer, pinned}
+use Rattle.float.specs.declared.F32.{F32}
 use Rattle.float.specs.declared.mark.Mark.{Mark}
 use Rattle.float.specs.declared.mark.Marked.{Marked}
 use Rattle.float.specs.declared.powi.Counted.{Counted}
 use Rattle.float.specs.Marks.{mark_of}
 use Rattle.float.specs.Powi.{powi_word, products_of}
-use Rattle.float.proofs.F32.from_bits.Reads as from_bits
-use Rattle.float.proofs.F32.to_bits.Reads as to_bits
+use Rattle.float.proofs.F32Number.from_bits.Reads as from_bits
+use Rattle.float.proofs.F32Number.to_bits.Reads as to_bits
 use Rattle.float.proofs.F32.value.Reads as value
 use Rattle.float.proofs.F32.of.Reads as of
-use Rattle.float.proofs.F32.is_nan.Reads as is_nan
-use Rattle.float.proofs.F32.is_sign_negative.Reads as is_sign_negative
-use Rattle.float.proofs.F32.is_sign_positive.Reads as is_sign_positive
-use Rattle.float.proofs.F32.without_sign.Reads as without_sign
-use Rattle.float.proofs.F32.extract_exponent_bits.Reads as extract_exponent_bits
+use Rattle.float.proofs.F32Number.is_nan.Reads as is_nan
+use Rattle.float.proofs.F32Number.is_sign_negative.Reads as is_sign_negative
+use Rattle.float.proofs.F32Number.is_sign_positive.Reads as is_sign_positive
+use Rattle.float.proofs.F32Number.without_sign.Reads as without_sign
+use Rattle.float.proofs.F32Number.extract_exponent_bits.Reads as extract_exponent_bits
 use Rattle.float.proofs.F32.extract_exponent_value.Reads as extract_exponent_value
-use Rattle.float.proofs.F32.exponent_clamped.Reads as exponent_clamped
+use Rattle.float.proofs.F32Number.exponent_clamped.Reads as exponent_clamped
+use Rattle.float.proofs.F32Number.less_one.Reads as less_one
+use Rattle.float.proofs.F32Number.is_at_least_zero.Reads as is_at_least_zero
+use Rattle.float.proofs.F32Number.is_endless.Reads as is_endless
+use Rattle.float.proofs.F32Number.is_zero.Reads as is_zero
+use Rattle.float.proofs.F32Number.is_small.Reads as is_small
+use Rattle.float.proofs.F32Number.is_below_zero.Reads as is_below_zero
 use Rattle.float.proofs.F32.set_exponent.Reads as set_exponent
 use Rattle.float.proofs.F32.is_integer.Reads as is_integer
 use Rattle.float.proofs.F32.is_even.Reads as is_even
 use Rattle.float.proofs.F32.cast_marked.Reads as cast_marked
 use Rattle.float.proofs.F32.to_i32.Reads as to_i32
-use Rattle.float.proofs.F32.trunc.Reads as trunc
-use Rattle.float.proofs.F32.fract.Reads as fract
+use Rattle.float.proofs.F32Number.trunc.Reads as trunc
+use Rattle.float.proofs.F32Number.fract.Reads as fract
 use Rattle.float.proofs.F32.floor.Reads as floor
 use Rattle.float.proofs.F32.floor_marked.Reads as floor_marked
 use Rattle.float.proofs.F32.ceil.Reads as ceil
 use Rattle.float.proofs.F32.ceil_marked.Reads as ceil_marked
 use Rattle.float.proofs.F32.round.Reads as round
 use Rattle.float.proofs.F32.abs.Reads as abs
-use Rattle.float.proofs.F32.copysign.Reads as copysign
-use Rattle.float.proofs.F32.sqrt.Reads as sqrt
-use Rattle.float.proofs.F32.inv.Reads as inv
+use Rattle.float.proofs.F32Number.copysign.Reads as copysign
+use Rattle.float.proofs.F32Number.sqrt.Reads as sqrt
+use Rattle.float.proofs.F32Number.inv.Reads as inv
 use Rattle.float.proofs.F32.invsqrt.Reads as invsqrt
 use Rattle.float.proofs.F32.recip.Reads as recip
 use Rattle.float.proofs.F32.ln.Reads as ln
@@ -57,23 +64,23 @@ use Rattle.float.proofs.F32.acos.Reads as acos
 use Rattle.float.proofs.F32.tan.Reads as tan
 use Rattle.float.proofs.F32.rem_euclid.Reads as rem_euclid
 use Rattle.float.proofs.F32.div_euclid.Reads as div_euclid
-use Rattle.float.proofs.mark.Mark.number.Reads as mark_number_reads
+use Rattle.float.proofs.mark.U32FromMark.from.Reads as mark_number_reads
 use Rattle.float.proofs.cast.from_i32.Reads as from_i32
 use Rattle.float.proofs.cast.from_u32.Reads as from_u32
 use Rattle.float.proofs.cast.bits_of_i32.Reads as bits_of_i32
 use Rattle.float.proofs.cast.i32_of_bits.Reads as i32_of_bits
+use Rattle.format.proofs.words.U32Word.difference.Reads as difference
+use Rattle.format.proofs.words.U32Word.moved_up.Reads as moved_up
+use Rattle.format.proofs.words.U32Word.moved_down.Reads as moved_down
 use Rattle.float.proofs.wrap.sum.Reads as sum
-use Rattle.float.proofs.wrap.difference.Reads as difference
 use Rattle.float.proofs.wrap.product.Reads as product
-use Rattle.float.proofs.wrap.shl.Reads as shl
-use Rattle.float.proofs.wrap.shr.Reads as shr
 use Rattle.float.proofs.steps.abs_of.Reads as abs_of
 use Rattle.float.proofs.steps.floor_of.Reads as floor_of
 use Rattle.float.proofs.steps.is_at.Reads as is_at
 use Rattle.float.proofs.cos.of_word.Reads as cos_of_word_reads
 
-abbrev marked : ℕ → Mark → Marked
-marked w m = record { number = record { 0 = w }; mark = m }
+abbrev marked : ℕ → Mark → Marked F32
+marked w m = record { value = record { 0 = w }; mark = m }
 
 abbrev counted : ℕ → ℕ → Counted
 counted w p = record { number = record { 0 = w }; products = p }
@@ -84,7 +91,7 @@ module _ (κs : Lfts 0) where
   f32_from_bits = pinned _ (λ a r x p. p)
 
   pub f32_to_bits : OneAnswer (to_bits.Post κs) (λ r x. r)
-  f32_to_bits = pinned _ (λ a r x p. p)
+  f32_to_bits = pinned _ (λ a r x p. p.0)
 
   pub f32_value : OneAnswer (value.Post κs) (λ r x. r)
   f32_value = pinned _ (λ a r x p. p)
@@ -123,6 +130,24 @@ module _ (κs : Lfts 0) where
   pub f32_is_even : OneAnswer (is_even.Post κs) (λ r x. r)
   f32_is_even = pinned _ (λ a r x p. p)
 
+  pub f32_less_one : OneAnswer (less_one.Post κs) (λ r x. r.0)
+  f32_less_one = pinned _ (λ a r x p. p)
+
+  pub f32_is_at_least_zero : OneAnswer (is_at_least_zero.Post κs) (λ r x. r)
+  f32_is_at_least_zero = pinned _ (λ a r x p. p)
+
+  pub f32_is_endless : OneAnswer (is_endless.Post κs) (λ r x. r)
+  f32_is_endless = pinned _ (λ a r x p. p)
+
+  pub f32_is_zero : OneAnswer (is_zero.Post κs) (λ r x. r)
+  f32_is_zero = pinned _ (λ a r x p. p)
+
+  pub f32_is_small : OneAnswer (is_small.Post κs) (λ r x. r)
+  f32_is_small = pinned _ (λ a r x p. p)
+
+  pub f32_is_below_zero : OneAnswer (is_below_zero.Post κs) (λ r x. r)
+  f32_is_below_zero = pinned _ (λ a r x p. p)
+
   -- ---- the casts
   pub mark_number : OneAnswer (mark_number_reads.Post κs) (λ r x. r)
   mark_number = pinned _ (λ a r x p. p)
@@ -149,16 +174,16 @@ module _ (κs : Lfts 0) where
   pub wrap_sum : OneAnswer (sum.Post κs) (λ r x. r)
   wrap_sum = pinned _ (λ a r x p. p)
 
-  pub wrap_difference : OneAnswer (difference.Post κs) (λ r x. r)
-  wrap_difference = pinned _ (λ a r x p. p)
-
   pub wrap_product : OneAnswer (product.Post κs) (λ r x. r)
   wrap_product = pinned _ (λ a r x p. p)
 
-  pub wrap_shl : OneAnswer (shl.Post κs) (λ r x. r)
+  pub wrap_difference : OneAnswer (difference.Post κs) (λ r x. r)
+  wrap_difference = pinned _ (λ a r x p. p)
+
+  pub wrap_shl : OneAnswer (moved_up.Post κs) (λ r x. r)
   wrap_shl = pinned _ (λ a r x p. p)
 
-  pub wrap_shr : OneAnswer (shr.Post κs) (λ r x. r)
+  pub wrap_shr : OneAnswer (moved_down.Post κs) (λ r x. r)
   wrap_shr = pinned _ (λ a r x p. p)
 
   pub steps_abs_of : OneAnswer (abs_of.Post κs) (λ r x. r)

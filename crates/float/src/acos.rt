@@ -4,8 +4,10 @@ ghost use Rattle.std.specs.Prelude.{◌≡◌};
 ghost use Rattle.float.specs.Acos.{slope_word, acos_word};
 
 use crate::{F32, steps};
+use format::Number;
 
 impl F32 {
+    #[tactic(auto, unfolding(crate::specs::Acos::acos_word))]
     pub fn acos(self) -> F32
         ensures { result.0 ≡ acos_word self.0 }
     {

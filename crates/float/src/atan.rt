@@ -7,11 +7,13 @@ ghost use Rattle.float.specs.Engine.{ieee};
 ghost use Rattle.float.specs.Atan.{atan_norm_word, atan_word};
 
 use crate::{F32, steps};
+use format::Number;
 
 // By how much the curve bends.
 pub const BEND: f32 = 0.596227;
 
 impl F32 {
+    #[tactic(auto, unfolding(crate::specs::Atan::atan_word))]
     pub fn atan(self) -> F32
         ensures { result.0 ≡ atan_word ieee self.0 }
     {
@@ -19,6 +21,7 @@ impl F32 {
     }
 
     // The quotient is found without the sign, which is or-ed onto it.
+    #[tactic(auto, using(crate::proofs::Signs::nan_answered, crate::proofs::Signs::or_answered), unfolding(crate::specs::Atan::atan_norm_word))]
     pub fn atan_norm(self) -> F32
         ensures { result.0 ≡ atan_norm_word ieee self.0 }
     {

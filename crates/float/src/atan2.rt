@@ -4,9 +4,11 @@ ghost use Rattle.std.specs.Prelude.{◌≡◌};
 ghost use Rattle.float.specs.Atan2.{offset, quarters, atan2_word};
 
 use crate::{F32, atan, cast, steps};
+use format::Number;
 
 impl F32 {
     // The number is y, its operand x. Of two zeros the answer is a NaN.
+    #[tactic(auto, unfolding(crate::specs::Atan2::atan2_word))]
     pub fn atan2(self, rhs: F32) -> F32
         ensures { result.0 ≡ atan2_word self.0 rhs.0 }
     {
@@ -18,6 +20,7 @@ impl F32 {
     }
 }
 
+#[tactic(auto, using(crate::proofs::Signs::signs_or), unfolding(crate::specs::Atan2::quarters))]
 fn quarters(y: F32, x: F32) -> f32
     ensures { result ≡ quarters y.0 x.0 }
 {
@@ -31,6 +34,7 @@ fn quarters(y: F32, x: F32) -> f32
 }
 
 // 0, 2 or 4: from where the quotient counts, in quarter turns.
+#[tactic(auto, using(crate::proofs::Signs::offset_is))]
 fn offset(y: F32, x: F32) -> u32
     ensures { result ≡ offset y.0 x.0 }
 {

@@ -9,6 +9,7 @@ ghost use Rattle.float.specs.Marks.{mark_of};
 
 use crate::F32;
 use crate::mark::Marked;
+use format::Number;
 
 impl F32 {
     pub fn ceil(self) -> F32
@@ -20,16 +21,15 @@ impl F32 {
     }
 
     // The same, with the mark of the cast, which is one of the number with its sign turned.
-    pub fn ceil_marked(self) -> Marked
-        ensures steps { result.number.0 ≡ ceil_word binary32 self.0 }
-        ensures ieee { To31 self.0 → IsCeil binary32 self.0 result.number.0 }
+    pub fn ceil_marked(self) -> Marked<F32>
+        ensures steps { result.value.0 ≡ ceil_word binary32 self.0 }
+        ensures ieee { To31 self.0 → IsCeil binary32 self.0 result.value.0 }
         ensures mark { result.mark ≡ mark_of (turned_word binary32 self.0) }
     {
         let down = F32(self.0 ^ F32::SIGN_MASK).floor_marked();
-        let mark = down.mark;
         Marked {
-            number: F32(down.number.0 ^ F32::SIGN_MASK),
-            mark: mark,
+            value: F32(down.value.0 ^ F32::SIGN_MASK),
+            mark: down.mark,
         }
     }
 }

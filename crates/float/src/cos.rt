@@ -25,6 +25,7 @@ impl F32 {
 // The same from a word to a word. A caller hands over a plain number and keeps no place on its stack for
 // it, so the call by number stays small enough for the loop of a strip, and the compiler sees two calls
 // with one word as one.
+#[tactic(auto, unfolding(crate::specs::Cos::cos_word))]
 pub fn of_word(w: u32) -> u32
     ensures { result ≡ cos_word ieee w }
 {

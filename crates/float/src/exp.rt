@@ -5,6 +5,7 @@ ghost use Rattle.std.specs.Prelude.{◌≡◌, ◌+ℤ◌};
 ghost use Rattle.float.specs.Exp.{series, clipped, scaled_word, power_word, exp_word};
 
 use crate::{F32, steps};
+use format::Number;
 
 // As the language's own floats.
 const E: f32 = 2.7182817;
@@ -12,6 +13,7 @@ const E: f32 = 2.7182817;
 const LOG2_E: f32 = 1.442695;
 
 impl F32 {
+    #[tactic(auto, unfolding(crate::specs::Exp::exp_word))]
     pub fn exp(self) -> F32
         ensures { result.0 ≡ exp_word self.0 }
     {
@@ -34,11 +36,12 @@ fn power(log: F32) -> F32
     ensures { result.0 ≡ power_word log.0 }
 {
     let part = F32::of(series(log.fract().value() * steps::LN_2));
-    let exponent = saturating_sum(part.extract_exponent_value(), log.trunc().to_i32());
-    scaled(part, exponent)
+    let whole = log.trunc().to_i32();
+    scaled(part, part.extract_exponent_value().saturating_add(whole))
 }
 
 // E raised to a number near 0, between -LN_2 and LN_2.
+#[tactic(auto, unfolding(crate::specs::Exp::series))]
 fn series(s: f32) -> f32
     ensures { result ≡ series s }
 {
@@ -46,19 +49,6 @@ fn series(s: f32) -> f32
     let third = 1.0 + s / 3.0 * fourth;
     let second = 1.0 + s / 2.0 * third;
     1.0 + s / 1.0 * second
-}
-
-fn saturating_sum(a: i32, b: i32) -> i32
-    ensures { result ≡ clipped (a +ℤ b) }
-{
-    let sum = a as i64 + b as i64;
-    if sum > 0x7fff_ffff {
-        return i32::MAX;
-    }
-    if sum < -0x8000_0000 {
-        return i32::MIN;
-    }
-    sum as i32
 }
 
 // The number with another exponent, where a word has it.

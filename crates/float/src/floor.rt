@@ -24,16 +24,14 @@ impl F32 {
     }
 
     // The same, with the mark of the cast.
-    pub fn floor_marked(self) -> Marked
-        ensures steps { result.number.0 ≡ floor_word binary32 self.0 }
-        ensures ieee { To31 self.0 → IsFloor binary32 self.0 result.number.0 }
+    pub fn floor_marked(self) -> Marked<F32>
+        ensures steps { result.value.0 ≡ floor_word binary32 self.0 }
+        ensures ieee { To31 self.0 → IsFloor binary32 self.0 result.value.0 }
         ensures mark { result.mark ≡ mark_of self.0 }
     {
-        let casted = self.cast_marked();
-        let mark = casted.mark;
         Marked {
-            number: self.floor(),
-            mark: mark,
+            value: self.floor(),
+            mark: self.cast_marked().mark,
         }
     }
 }

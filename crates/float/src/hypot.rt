@@ -4,8 +4,10 @@ ghost use Rattle.std.specs.Prelude.{◌≡◌};
 ghost use Rattle.float.specs.Hypot.{hypot_word};
 
 use crate::F32;
+use format::Number;
 
 impl F32 {
+    #[tactic(auto, unfolding(crate::specs::Hypot::hypot_word))]
     pub fn hypot(self, rhs: F32) -> F32
         ensures steps { result.0 ≡ hypot_word self.0 rhs.0 }
     {

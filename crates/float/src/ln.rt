@@ -5,8 +5,10 @@ ghost use Rattle.std.specs.Prelude.{◌≡◌};
 ghost use Rattle.float.specs.Ln.{polynomial, logarithm, ln_word};
 
 use crate::{F32, cast, steps};
+use format::Number;
 
 impl F32 {
+    #[tactic(auto, unfolding(crate::specs::Ln::ln_word))]
     pub fn ln(self) -> F32
         ensures steps { result.0 ≡ ln_word self.0 }
     {
@@ -31,6 +33,7 @@ fn logarithm(x: F32) -> f32
 }
 
 // The logarithm of z from 1 to 2, with the numbers that Remez's algorithm made.
+#[tactic(auto, unfolding(crate::specs::Ln::polynomial))]
 fn polynomial(z: f32) -> f32
     ensures { result ≡ polynomial z }
 {

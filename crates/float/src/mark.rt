@@ -6,8 +6,9 @@ ghost use Rattle.std.specs.Float.Ieee.{to_signed};
 ghost use Rattle.float.specs.Marks.{mark_of, number_of, Tells};
 
 use crate::F32;
+use format::Number;
 
-#[derive(Clone, Copy)]
+#[derive(Clone, Copy, Debug, PartialEq, Eq)]
 pub enum Mark {
     // The integer is the number.
     Exact,
@@ -21,12 +22,12 @@ pub enum Mark {
     NotANumber,
 }
 
-impl Mark {
-    // From 0 to 4, in the order above.
-    pub fn number(self) -> u32
-        ensures { result ≡ number_of self }
-    {
-        match self {
+// From 0 to 4, in the order above.
+impl From<Mark> for u32 {
+    ghost from_gives = { λ m n. n ≡ number_of m };
+
+    fn from(mark: Mark) -> u32 {
+        match mark {
             Mark::Exact => 0,
             Mark::Dropped => 1,
             Mark::High => 2,
@@ -36,29 +37,23 @@ impl Mark {
     }
 }
 
-// An integer, with the mark of the cast that it is from.
+// What a cast gave, or a kernel by way of it, with the mark of the cast.
 #[derive(Clone, Copy)]
-pub struct Casted {
-    pub value: i32,
-    pub mark: Mark,
-}
-
-// A number that a cast was made for, with the mark of the cast.
-#[derive(Clone, Copy)]
-pub struct Marked {
-    pub number: F32,
+pub struct Marked<T> {
+    pub value: T,
     pub mark: Mark,
 }
 
 impl F32 {
     // The mark is found apart from the integer, so that a kernel that does not ask for it runs
     // nothing for it.
-    pub fn cast_marked(self) -> Casted
+    #[tactic(auto, using(crate::proofs::Marks::told))]
+    pub fn cast_marked(self) -> Marked<i32>
         ensures value { result.value ≡ to_signed 31 (from_bits binary32 self.0) }
         ensures mark { result.mark ≡ mark_of self.0 }
         ensures tells { Tells result.mark self.0 result.value }
     {
-        Casted {
+        Marked {
             value: self.to_i32(),
             mark: of_cast(self),
         }
@@ -68,32 +63,28 @@ impl F32 {
 // -2^31: of the words from 2^31 on in size, the one that a 32-bit integer holds.
 const LEAST: u32 = 0xcf00_0000;
 
+#[tactic(auto, using(crate::proofs::Marks::mark_within, crate::proofs::Marks::mark_low, crate::proofs::Marks::mark_high))]
 fn of_cast(x: F32) -> Mark
     ensures { result ≡ mark_of x.0 }
 {
-    if x.is_nan() {
-        return Mark::NotANumber;
-    }
     let exponent = x.extract_exponent_bits();
-    if exponent < F32::EXPONENT_BIAS + 31 {
+    if x.is_nan() {
+        Mark::NotANumber
+    } else if exponent < F32::EXPONENT_BIAS + 31 {
         // the crate's own test is right here from 1 on, and below 1 a zero alone is whole
         let whole = (exponent >= F32::EXPONENT_BIAS) & x.is_integer();
-        return kept(whole | (x.without_sign().0 == 0));
+        kept(whole | (x.without_sign().0 == 0))
+    } else if x.0 == LEAST {
+        Mark::Exact
+    } else if x.is_sign_negative() {
+        Mark::Low
+    } else {
+        Mark::High
     }
-    if x.0 == LEAST {
-        return Mark::Exact;
-    }
-    if x.is_sign_negative() {
-        return Mark::Low;
-    }
-    Mark::High
 }
 
 fn kept(whole: bool) -> Mark
     ensures { result ≡ (if whole then Mark.Exact else Mark.Dropped) }
 {
-    if whole {
-        return Mark::Exact;
-    }
-    Mark::Dropped
+    if whole { Mark::Exact } else { Mark::Dropped }
 }

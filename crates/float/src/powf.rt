@@ -4,8 +4,10 @@ ghost use Rattle.std.specs.Prelude.{◌≡◌};
 ghost use Rattle.float.specs.Powf.{raised_word, powf_word};
 
 use crate::F32;
+use format::Number;
 
 impl F32 {
+    #[tactic(auto, unfolding(crate::specs::Powf::powf_word))]
     pub fn powf(self, n: F32) -> F32
         ensures { result.0 ≡ powf_word self.0 n.0 }
     {

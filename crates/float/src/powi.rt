@@ -1,28 +1,17 @@
 // A number raised to an integer power, by squaring.
 // Method: https://stackoverflow.com/a/101613
-ghost use Rattle.std.specs.Prelude.{◌≡◌, ◌+◌, ◌≤◌, ◌&&◌, length, pos, int_lt, unsigned_abs};
-ghost use Rattle.float.specs.Powi.{squared, ended, taken, works, from, start, powi_works, squaring_word, is_zero, is_near_one, approx, is_past, infinite, powi_word, products_of, work_of};
+ghost use Rattle.std.specs.Prelude.{◌≡◌, ◌+◌, ◌≤◌, length, MatchOption};
+ghost use Rattle.std.proofs.Math.Option.{none, some};
+ghost use Rattle.float.specs.Powi.{squared, ended, taken, works, from, start, powi_works, squaring_word, is_zero, is_near_one, approx, is_past, infinite, early, powi_word, products_of, work_of};
 
-use crate::{F32, cast, wrap};
+use crate::F32;
+use format::Number;
 
 // A number, and how many products were formed for it.
 #[derive(Clone, Copy)]
 pub struct Counted {
     pub number: F32,
     pub products: u32,
-}
-
-impl Counted {
-    // An answer that is given early, with no product.
-    fn early(number: F32) -> Counted
-        ensures number { result.number ≡ number }
-        ensures products { result.products ≡ 0 }
-    {
-        Counted {
-            number: number,
-            products: 0,
-        }
-    }
 }
 
 impl F32 {
@@ -33,30 +22,41 @@ impl F32 {
         self.powi_counted(n).number
     }
 
-    // The same, and how many products it took.
+    // The same, and how many products it took: none where the answer is given early. Inlined it makes
+    // the calls by number longer, those of the other operations too.
+    #[inline(never)]
     pub fn powi_counted(self, n: i32) -> Counted
         ensures number { result.number.0 ≡ powi_word self.0 n }
         ensures products { result.products ≡ products_of self.0 n }
     {
-        if n == i32::MIN {
-            return Counted::early(F32::NAN);
+        match early(self, n) {
+            Some(number) => Counted {
+                number,
+                products: 0,
+            },
+            None => multiplied(self, n),
         }
-        if n == 0 {
-            return Counted::early(F32::ONE);
-        }
-        if is_zero_and_stays(self, n) {
-            return Counted::early(self);
-        }
-        if is_near_one(self) {
-            return multiplied(self, n);
-        }
-        if is_past(self, n) {
-            return Counted::early(infinite(self, n));
-        }
-        if approx(self, n) < -149 {
-            return Counted::early(F32::ZERO);
-        }
-        multiplied(self, n)
+    }
+}
+
+// An answer that needs no product.
+fn early(x: F32, n: i32) -> Option<F32>
+    ensures { MatchOption result (early x.0 n ≡ none) (λ y. early x.0 n ≡ some y.0) }
+{
+    if n == i32::MIN {
+        Some(F32::NAN)
+    } else if n == 0 {
+        Some(F32::ONE)
+    } else if is_zero(x) && n > 0 {
+        Some(x)
+    } else if is_near_one(x) {
+        None
+    } else if is_past(x, n) {
+        Some(infinite(x, n))
+    } else if approx(x, n) < -149 {
+        Some(F32::ZERO)
+    } else {
+        None
     }
 }
 
@@ -66,65 +66,44 @@ fn is_zero(x: F32) -> bool
     x.value() == 0.0
 }
 
-fn is_zero_and_stays(x: F32, n: i32) -> bool
-    ensures { result ≡ (is_zero x.0 && int_lt (pos 0) n) }
-{
-    if is_zero(x) {
-        return n > 0;
-    }
-    false
-}
-
 // A number from 0.5 to below 2 may be multiplied long without leaving the range.
 fn is_near_one(x: F32) -> bool
     ensures { result ≡ is_near_one x.0 }
 {
     let magnitude = x.abs().value();
-    if 0.5 <= magnitude {
-        return magnitude < 2.0;
-    }
-    false
+    0.5 <= magnitude && magnitude < 2.0
 }
 
 // About the exponent of the power. The product wraps.
 fn approx(x: F32, n: i32) -> i32
     ensures { result ≡ approx x.0 n }
 {
-    let exponent = cast::bits_of_i32(x.extract_exponent_value());
-    cast::i32_of_bits(wrap::product(exponent, cast::bits_of_i32(n)))
+    x.extract_exponent_value().wrapping_mul(n)
 }
 
 fn is_past(x: F32, n: i32) -> bool
     ensures { result ≡ is_past x.0 n }
 {
     let exponent = approx(x, n);
-    if exponent > 127 {
-        return true;
-    }
-    if is_zero(x) {
-        return exponent < 0;
-    }
-    false
+    exponent > 127 || (is_zero(x) && exponent < 0)
 }
 
 // The infinity of an even power, or of an odd one with the operand's sign.
 fn infinite(x: F32, n: i32) -> F32
     ensures { result.0 ≡ infinite x.0 n }
 {
-    if x.is_sign_positive() {
-        return F32::INFINITY;
+    if x.is_sign_positive() || n.unsigned_abs() % 2 == 0 {
+        F32::INFINITY
+    } else {
+        F32::NEG_INFINITY
     }
-    if magnitude(n) % 2 == 0 {
-        return F32::INFINITY;
-    }
-    F32::NEG_INFINITY
 }
 
 fn multiplied(x: F32, n: i32) -> Counted
     ensures number { result.number.0 ≡ squaring_word x.0 n }
     ensures products { result.products ≡ length (powi_works x.0 n) }
 {
-    let held = raised(base(x, n), magnitude(n));
+    let held = raised(base(x, n), n.unsigned_abs());
     Counted {
         number: F32::of(held.result),
         products: held.products,
@@ -134,21 +113,7 @@ fn multiplied(x: F32, n: i32) -> Counted
 fn base(x: F32, n: i32) -> f32
     ensures { result ≡ (start x.0 n).base }
 {
-    if n < 0 {
-        return 1.0 / x.value();
-    }
-    x.value()
-}
-
-// The absolute value. For the least integer it is no integer, but a word still.
-fn magnitude(n: i32) -> u32
-    ensures { result ≡ unsigned_abs n }
-{
-    let word = cast::bits_of_i32(n);
-    if word < 0x8000_0000 {
-        return word;
-    }
-    0xffff_ffff - word + 1
+    if n < 0 { 1.0 / x.value() } else { x.value() }
 }
 
 // What is held between two products, and how many were formed before: for a magnitude of 32 bits 63
@@ -160,48 +125,52 @@ struct Held {
     products: u32,
 }
 
+impl Held {
+    // The base taken into the result, a product, where the lowest bit of m is set.
+    fn taken(self, m: u32) -> Held
+        requires { self.products ≤ 63 }
+        ensures work { work_of result ≡ ended (work_of self) (taken m (work_of self)) }
+        ensures products { result.products ≡ self.products + length (taken m (work_of self)) }
+    {
+        if m % 2 == 0 {
+            self
+        } else {
+            Held {
+                result: self.result * self.base,
+                products: self.products + 1,
+                ..self
+            }
+        }
+    }
+
+    // The base by itself, a product.
+    fn squared(self) -> Held
+        requires { self.products ≤ 63 }
+        ensures work { work_of result ≡ squared (work_of self) }
+        ensures products { result.products ≡ self.products + 1 }
+    {
+        Held {
+            base: self.base * self.base,
+            products: self.products + 1,
+            ..self
+        }
+    }
+}
+
+// The bits of the magnitude, the lowest first, taken by halving it: no range counts them.
 fn raised(base: f32, magnitude: u32) -> Held
     ensures work { work_of result ≡ ended (from base) (works 32 magnitude (from base)) }
     ensures products { result.products ≡ length (works 32 magnitude (from base)) }
 {
     let mut held = Held {
-        base: base,
+        base,
         result: 1.0,
         products: 0,
     };
     let mut m = magnitude;
     while m > 1 {
-        held = squared(taken(held, m));
-        m = m / 2;
+        held = held.taken(m).squared();
+        m /= 2;
     }
-    taken(held, m)
-}
-
-// The base taken into the result, a product, where the lowest bit of m is set.
-fn taken(held: Held, m: u32) -> Held
-    requires { held.products ≤ 63 }
-    ensures work { work_of result ≡ ended (work_of held) (taken m (work_of held)) }
-    ensures products { result.products ≡ held.products + length (taken m (work_of held)) }
-{
-    if m % 2 == 1 {
-        return Held {
-            base: held.base,
-            result: held.result * held.base,
-            products: held.products + 1,
-        };
-    }
-    held
-}
-
-// The base by itself, a product.
-fn squared(held: Held) -> Held
-    requires { held.products ≤ 63 }
-    ensures work { work_of result ≡ squared (work_of held) }
-    ensures products { result.products ≡ held.products + 1 }
-{
-    Held {
-        base: held.base * held.base,
-        result: held.result,
-        products: held.products + 1,
-    }
+    held.taken(m)
 }

@@ -6,6 +6,7 @@ ghost use Rattle.format.specs.Whole.{round_word};
 ghost use Rattle.format.specs.Meaning.{Under23, IsRound};
 
 use crate::{F32, cast};
+use format::Number;
 
 impl F32 {
     pub fn round(self) -> F32

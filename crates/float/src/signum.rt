@@ -4,6 +4,7 @@ ghost use Rattle.std.specs.Float.{binary32};
 ghost use Rattle.format.specs.Sign.{signum_word};
 
 use crate::F32;
+use format::Number;
 
 impl F32 {
     pub fn signum(self) -> F32

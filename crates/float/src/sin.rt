@@ -7,6 +7,7 @@ ghost use Rattle.float.specs.Cos.{sin_word};
 use crate::{F32, steps};
 
 impl F32 {
+    #[tactic(auto, unfolding(crate::specs::Cos::sin_word))]
     pub fn sin(self) -> F32
         ensures { result.0 ≡ sin_word ieee self.0 }
     {

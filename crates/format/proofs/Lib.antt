@@ -1,6 +1,7 @@
 -- The laws that the crates above cite, all over the formats of `lib.Ieee`.
 pub mod Fields
 pub mod Masks
+pub mod Width
 pub mod Nan
 pub mod Sign
 pub mod Value
@@ -35,3 +36,4 @@ pub mod TakenOff
 pub mod Point
 pub mod Unique
 pub mod Remainder
+pub mod OneAnswer

@@ -9,8 +9,8 @@ use lib.Pow.{pow_pos, split, field}
 use borrow.Author.Tests.{leb-true, leb-false}
 use lib.Ieee.{Format, binary32, binary64, hid, ones, top}
 use Rattle.format.specs.Fields.{negative, magnitude, exponent, fraction, sign_bit}
-use Rattle.format.specs.Sign.{copysign_word, turned_word}
-use Rattle.format.proofs.Fields.{hid_pos, magnitude_lt}
+use Rattle.format.specs.Sign.{turned_word}
+use Rattle.format.proofs.Fields.{hid_pos}
 
 pub clear_sign : (f : Format) (w : ℕ) → bit_and w (top f - 1) ≡ magnitude f w
 clear_sign binary32 w = and_mask w 31
@@ -66,12 +66,6 @@ join_sign binary32 true m h = or_shifted_r 1 31 m h
 join_sign binary64 true m h = or_shifted_r 1 63 m h
 join_sign f false m h = or_zero_r m ∙ sym (zero-add m)
 
--- the exponent field moved down to the lowest place, and one word's magnitude with another's sign
+-- the exponent field moved down to the lowest place
 pub field_down : (f : Format) (w : ℕ) → bit_and w (ones f * hid f) / hid f ≡ exponent f w
 field_down f w = ap (λ (x : ℕ). x / hid f) (only_field f w) ∙ mul-div_cancel (exponent f w) (hid_pos f)
-
-pub signed_like : (f : Format) (w y : ℕ) → y < 2 * top f → bit_or (bit_and w (top f - 1)) (bit_and y (top f)) ≡ copysign_word f w y
-signed_like f w y h =
-    ap (λ (m : ℕ). bit_or m (bit_and y (top f))) (clear_sign f w)
-    ∙ ap (bit_or (magnitude f w)) (only_sign f y h)
-    ∙ join_sign f (negative f y) (magnitude f w) (magnitude_lt f w)

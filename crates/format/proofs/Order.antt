@@ -8,6 +8,9 @@ use mathlib.Core.Logic.{◌⊎◌, inl, inr}
 use mathlib.Core.Bool.{Bool, true, false, not}
 use borrow.Author.Tests.{leb-true, leb-false, lt-ltb, le-ltb}
 use lib.Dec.{leb, ltb}
+use Rattle.std.specs.Prelude.{Option, Some}
+use Rattle.std.proofs.Common.{Ordering, rules}
+use Rattle.std.specs.Ordering.{nat_cmp, partial_lt}
 
 pub either : (a b : ℕ) → (a ≤ b) ⊎ (b < a)
 either a b = by_test (leb a b) refl
@@ -39,3 +42,8 @@ sub_mul a b k = mul_comm (a - b) k ∙ mul-sub k a b ∙ rw (mul_comm k a, mul_c
 
 pub no_wrap : (n m w : ℕ) → w ≤ m → m < n → (n + m - w) % n ≡ m - w
 no_wrap n m w h l = rw (add-sub_assoc h n, add-mod_left) (mod-eq_of_lt (omega arith))
+
+-- what `<` answers of words that are ordered as their numbers are
+pub lt_by_value : {A : Type 0} (cmp : A → A → Option Ordering) (value : A → ℕ) (a b : A) → cmp a b ≡ Some (nat_cmp (value a) (value b))
+    → partial_lt cmp a b ≡ ltb (value a) (value b)
+lt_by_value cmp value a b e = search rules

@@ -33,9 +33,6 @@ module _ (f : Format) (w n s : ℕ) (e : n ≡ exponent f w - emax f) (d : s ≡
   pub raised : bit_and s (hid f - 1) ≡ below_point f w * 2 ^ places f w
   raised = masked ∙ moved_up w (places f w) (prec f - 1)
 
-  pub raised_lt : bit_and s (hid f - 1) < hid f
-  raised_lt = subst (λ (b : ℕ). b < hid f) (sym raised) (below_lt f w)
-
   -- and where they were
   pub lowered : bit_and s (hid f - 1) / 2 ^ (n % width f) ≡ below_point f w
   lowered =

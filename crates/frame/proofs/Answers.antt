@@ -1,14 +1,22 @@
--- An answer is eleven bytes, and lines that are no frames have all the same. Assumes nothing.
-use Prim.Native.Nat.{ℕ, ◌+◌, ◌<◌}
+-- An answer packed is what was unpacked. It is eleven bytes, and lines that are no frames have all the same. Assumes nothing.
+use Prim.Native.Nat.{ℕ, ◌+◌, ◌^◌, ◌<◌}
 use native.Mathlib.Omega.{arith}
 use mathlib.Core.Path.{◌≡◌, sym, ap, ◌∙◌}
 use mathlib.Core.Bool.{false}
 use mathlib.Core.List.{List, [], ◌∷◌, ◌++◌}
 use borrow.Author.Tests.{ne_eqb}
 use lib.ListN.{length, length-append}
-use Rattle.frame.specs.Words.{packed}
+use Rattle.std.specs.Prelude.{Result}
+use Rattle.std.specs.Result.{result_unwrap_or}
+use Rattle.std.proofs.lemmas.Nat.{div-add-mod'}
+use Rattle.refusals.specs.declared.Refusal.{Refusal}
+use Rattle.refusals.specs.Given.{refusal_given}
+use Rattle.frame.specs.Words.{packed, Unpacks}
 use Rattle.frame.specs.Frame.{is_frame, hex_bytes, line_words, answer_bytes}
 use Rattle.frame.proofs.Digits.{hex_length}
+
+pub repacked : (n : ℕ) (r : Result ℕ Refusal) → Unpacks n r → packed (refusal_given r) (result_unwrap_or r 0) ≡ n
+repacked n r u = rw (u.refusal, u.word) (div-add-mod' n (2 ^ 32))
 
 pub answer_length : (line : List ℕ) → length (answer_bytes line) ≡ 11
 unfolding answer_bytes

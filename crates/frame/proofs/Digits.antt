@@ -6,13 +6,15 @@ use mathlib.Core.Path.{◌≡◌, refl, sym, ap, subst, ◌∙◌}
 use mathlib.Core.Logic.{◌⊎◌, inl, inr}
 use mathlib.Core.Bool.{Bool, true, false, cond, ◌&&◌, ◌||◌, false≢true}
 use mathlib.Core.List.{List, [], ◌∷◌, ◌++◌, append_assoc}
-use borrow.Author.Tests.{leb-true, eqb-true, le-leb, lt-leb}
+use borrow.Author.Tests.{leb-true, le-leb, lt-leb}
 use lib.Dec.{leb, eqb}
 use lib.ListN.{length, take, drop, get_or, set, length-append, length-drop}
-use lib.Seq.{take-suc, get_or-drop, set_split, take-append_seam, drop-append-add, drop-drop}
+use lib.Seq.{get_or-drop, take-suc, set_split, take-append_seam, drop-append-add, drop-drop}
 use lib.Pow.{pow-add, pow_mono}
 use native.Mathlib.Numerals.{add-one}
-use Rattle.frame.specs.Frame.{is_digit, digit_of, digit_or16, byte_of, all_digits, is_frame, number_after, hex_bytes}
+use Rattle.std.specs.Prelude.{Some, None}
+use Rattle.std.proofs.lemmas.Option.{none-some, cond_some}
+use Rattle.frame.specs.Frame.{is_digit, digit_of, digit_in, byte_of, all_digits, is_frame, number_after, hex_bytes}
 
 both : (p q : Bool) → (p && q) ≡ true → (p ≡ true) × (q ≡ true)
 both true q e = (refl, e)
@@ -38,22 +40,18 @@ digit_lt b e = go (digit_range b e)
     go (inl h) = rw (le-leb b 0x39 h.1) (omega arith)
     go (inr h) = rw (lt-leb b 0x39 (omega arith)) (omega arith)
 
--- a byte by its value or 16
-pub digit_if : (b d : ℕ) → d ≡ digit_or16 b → d ≤ 15 → is_digit b ≡ true
-digit_if b d e h = go (is_digit b) refl (rw e at h)
-  where
-    go : (t : Bool) → is_digit b ≡ t → cond t (digit_of b) 16 ≤ 15 → is_digit b ≡ true
-    go true q k = q
-    go false q k = absurd (let z : ⊥ = omega arith in z)
+-- a byte by its value, or as none
+pub digit_if : (b d : ℕ) → Some d ≡ digit_in b → is_digit b ≡ true
+digit_if b d e = (cond_some (is_digit b) (digit_of b) d (sym e)).0
 
-pub value_if : (b d : ℕ) → d ≡ digit_or16 b → d ≤ 15 → d ≡ digit_of b
-value_if b d e h = e ∙ rw (digit_if b d e h)
+pub value_if : (b d : ℕ) → Some d ≡ digit_in b → d ≡ digit_of b
+value_if b d e = sym (cond_some (is_digit b) (digit_of b) d (sym e)).1
 
-pub none_if : (b d : ℕ) → d ≡ digit_or16 b → 15 < d → is_digit b ≡ false
-none_if b d e h = go (is_digit b) refl (rw e at h)
+pub none_if : (b : ℕ) → None ≡ digit_in b → is_digit b ≡ false
+none_if b e = go (is_digit b) refl e
   where
-    go : (t : Bool) → is_digit b ≡ t → 15 < cond t (digit_of b) 16 → is_digit b ≡ false
-    go true q k = absurd (let l = digit_lt b q in let z : ⊥ = omega arith in z)
+    go : (t : Bool) → is_digit b ≡ t → None ≡ cond t (Some (digit_of b)) None → is_digit b ≡ false
+    go true q k = absurd (none-some (digit_of b) k)
     go false q k = q
 
 -- ---- a line of digits
@@ -77,12 +75,19 @@ pub all_of : (l : List ℕ) → ((i : ℕ) → i < length l → is_digit (get_or
 all_of [] h = refl
 all_of (b ∷ bs) h = rw (h 0 (omega arith)) (all_of bs (λ i k. h (suc i) (omega arith)))
 
-pub record Frame (l : List ℕ) : Type 0 where
-  pub long : length l ≡ 18
-  pub digits : (i : ℕ) → i < length l → is_digit (get_or l i 0) ≡ true
+all_take : (n : ℕ) (l : List ℕ) → all_digits l ≡ true → all_digits (take n l) ≡ true
+all_take zero l e = refl
+all_take (suc n) [] e = refl
+all_take (suc n) (b ∷ bs) e = let p = both (is_digit b) (all_digits bs) e in rw p.0 (all_take n bs p.1)
 
-pub frame_of : (l : List ℕ) → is_frame l ≡ true → Frame l
-frame_of l e = let p = both (eqb (length l) 18) (all_digits l) e in record { long = eqb-true (length l) 18 p.0; digits = all_at l p.1 }
+all_drop : (n : ℕ) (l : List ℕ) → all_digits l ≡ true → all_digits (drop n l) ≡ true
+all_drop zero l e = e
+all_drop (suc n) [] e = refl
+all_drop (suc n) (b ∷ bs) e = all_drop n bs (both (is_digit b) (all_digits bs) e).1
+
+-- a part of a frame has digits alone
+pub digits_in : (from count : ℕ) (l : List ℕ) → is_frame l ≡ true → all_digits (take count (drop from l)) ≡ true
+digits_in from count l e = all_take count (drop from l) (all_drop from l (both (eqb (length l) 18) (all_digits l) e).1)
 
 -- ---- the number that digits write
 
@@ -91,10 +96,11 @@ pub number_append : (n : ℕ) (l : List ℕ) (b : ℕ) → number_after n (l ++ 
 number_append n [] b = refl
 number_append n (c ∷ l) b = number_append (n * 16 + digit_of c) l b
 
+pub next_digit : (l : List ℕ) (i : ℕ) → i < length l → number_after 0 (take (i + 1) l) ≡ number_after 0 (take i l) * 16 + digit_of (get_or l i 0)
+next_digit l i h = rw (add-one i, take-suc l i 0 h) (number_append 0 (take i l) (get_or l i 0))
+
 pub one_more : (l : List ℕ) (from i : ℕ) → from + i < length l → number_after 0 (take (i + 1) (drop from l)) ≡ number_after 0 (take i (drop from l)) * 16 + digit_of (get_or l (from + i) 0)
-one_more l from i h =
-    let k : i < length (drop from l) = rw length-drop (omega arith) in
-    rw (add-one i, take-suc (drop from l) i 0 k, get_or-drop from l i 0) (number_append 0 (take i (drop from l)) (get_or l (from + i) 0))
+one_more l from i h = let k : i < length (drop from l) = rw length-drop (omega arith) in next_digit (drop from l) i k ∙ rw (get_or-drop from l i 0)
 
 -- a number of i digits, and one digit more of at most eight
 pub shorter : (n i : ℕ) → n < 2 ^ (4 * i) → i < 8 → n * 16 + 15 < 2 ^ 32

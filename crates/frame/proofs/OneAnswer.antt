@@ -6,23 +6,33 @@ use mathlib.Core.Path.{ap, ◌∙◌}
 use mathlib.Core.List.{List}
 use Rattle.frame.specs.Frame.{words_bytes, returned_for, left_with, returned, left}
 use Rattle.format.proofs.Pinned.{OneAnswer, pinned}
+use Rattle.std.specs.Prelude.{Result}
+use Rattle.refusals.specs.declared.Refusal.{Refusal}
+use Rattle.refusals.specs.Given.{given}
+use Rattle.refusals.proofs.Given.{told, told_with}
+use Rattle.frame.proofs.words.refused.Reads as words_refused_reads
 use Rattle.frame.proofs.words.answer.Reads as words_answer_reads
 use Rattle.frame.proofs.words.kernel_number.Reads as words_kernel_number_reads
-use Rattle.frame.proofs.words.refused.Reads as words_refused_reads
+use Rattle.frame.proofs.words.packed.Reads as words_packed_reads
+use Rattle.frame.proofs.words.packed_answer.Reads as words_packed_answer_reads
 use Rattle.frame.proofs.words.of_answer.Reads as words_of_answer_reads
 use Rattle.frame.proofs.digit.Reads as digit_reads
 use Rattle.frame.proofs.of_line.Reads as of_line_reads
+use Rattle.frame.proofs.answer_number.Reads as answer_number_reads
 use Rattle.frame.proofs.write.Reads as write_reads
 use Rattle.frame.proofs.answer.Reads as answer_reads
 
 pub words_answer : (κs : Lfts 0) → OneAnswer (words_answer_reads.Post κs) (λ r x. r)
-words_answer κs = pinned _ (λ a r x p. p)
+words_answer κs = pinned _ (λ a r x p. told_with _ _ 0 r p.refusal p.word)
 
 pub words_kernel_number : (κs : Lfts 0) → OneAnswer (words_kernel_number_reads.Post κs) (λ r x. r)
 words_kernel_number κs = pinned _ (λ a r x p. p)
 
-pub words_refused : (κs : Lfts 0) → OneAnswer (words_refused_reads.Post κs) (λ r x. r)
-words_refused κs = pinned _ (λ a r x p. p)
+pub words_packed_answer : (κs : Lfts 0) → OneAnswer (words_packed_answer_reads.Post κs) (λ r x. r)
+words_packed_answer κs = pinned _ (λ a r x p. p)
+
+pub words_packed : (κs : Lfts 0) → OneAnswer (words_packed_reads.Post κs) (λ r x. r)
+words_packed κs = pinned _ (λ a r x p. p)
 
 pub words_of_answer : (κs : Lfts 0) → OneAnswer (words_of_answer_reads.Post κs) (λ r x. r)
 words_of_answer κs = pinned _ (λ a r x p. p)
@@ -31,15 +41,15 @@ pub digit : (κs : Lfts 0) → OneAnswer (digit_reads.Post κs) (λ r x. r)
 digit κs = pinned _ (λ a r x p. p)
 
 pub of_line : (κs : Lfts 1) → OneAnswer (of_line_reads.Post κs) (λ r x. r)
-of_line κs = pinned _ (λ a r x p. p)
+of_line κs = pinned _ (λ a r x p. told_with _ _ 0 r p.refusal p.word)
 
 -- what a caller sees of the answering call
-pub record Seen : Type 0 where
-  pub number : ℕ
+pub record Seen (A : Type 0) : Type 0 where
+  pub answer : A
   pub bytes : List ℕ
 
-abbrev pub seen : ℕ → List ℕ → Seen
-seen n l = record { number = n; bytes = l }
+abbrev pub seen : {A : Type 0} → A → List ℕ → Seen A
+seen r l = record { answer = r; bytes = l }
 
 pub write : (κs : Lfts 1) → OneAnswer (write_reads.Post κs) (λ r x. seen r x.1.0.now)
 write κs =
@@ -48,5 +58,13 @@ write κs =
 
 pub answer : (κs : Lfts 2) → OneAnswer (answer_reads.Post κs) (λ r x. seen r x.1.0.now)
 answer κs =
+    pinned (λ a. seen (given (returned a.0.now a.1.0.now) tt) (left a.0.now a.1.0.now))
+    (λ a r x p. ap (λ (n : Result (Unit {0}) Refusal). seen n x.1.0.now) (told _ r p.0) ∙ ap (λ (l : List ℕ). seen (given (returned a.0.now a.1.0.now) tt) l) p.1)
+
+pub answer_number : (κs : Lfts 2) → OneAnswer (answer_number_reads.Post κs) (λ r x. seen r x.1.0.now)
+answer_number κs =
     pinned (λ a. seen (returned a.0.now a.1.0.now) (left a.0.now a.1.0.now))
     (λ a r x p. ap (λ (n : ℕ). seen n x.1.0.now) p.0 ∙ ap (λ (l : List ℕ). seen (returned a.0.now a.1.0.now) l) p.1)
+
+pub words_refused : (κs : Lfts 0) → OneAnswer (words_refused_reads.Post κs) (λ r x. r)
+words_refused κs = pinned _ (λ a r x p. p)

@@ -1,6 +1,6 @@
 -- A frame on the bench: a line of 18 lower-case hexadecimal digits, the operation, the first word and the second; and its answer,
 -- 11 bytes. Definitions only.
-use Rattle.std.specs.Prelude.{ℕ, zero, suc, ◌+◌, ◌-◌, ◌*◌, ◌/◌, ◌%◌, ◌^◌, Bool, true, cond, ◌&&◌, ◌||◌, List, [], ◌∷◌, ◌++◌, leb, ltb, eqb, length, take, drop}
+use Rattle.std.specs.Prelude.{ℕ, zero, suc, ◌+◌, ◌-◌, ◌*◌, ◌/◌, ◌%◌, ◌^◌, Bool, true, cond, ◌&&◌, ◌||◌, List, [], ◌∷◌, ◌++◌, leb, ltb, eqb, length, take, drop, Option, Some, None}
 use Rattle.frame.specs.Words.{packed, words_of}
 
 -- ---- digits: 0 to 9 are the bytes 30 to 39, and a to f the bytes 61 to 66
@@ -11,9 +11,9 @@ is_digit b = (leb 0x30 b && leb b 0x39) || (leb 0x61 b && leb b 0x66)
 abbrev pub digit_of : ℕ → ℕ
 digit_of b = cond (leb b 0x39) (b - 0x30) (b - 0x57)
 
--- 16 for a byte that is no digit
-abbrev pub digit_or16 : ℕ → ℕ
-digit_or16 b = cond (is_digit b) (digit_of b) 16
+-- none of a byte that is no digit
+abbrev pub digit_in : ℕ → Option ℕ
+digit_in b = cond (is_digit b) (Some (digit_of b)) None
 
 abbrev pub byte_of : ℕ → ℕ
 byte_of d = cond (leb d 9) (0x30 + d) (0x57 + d)

@@ -1,11 +1,19 @@
 -- An operation number and two words, answered as a frame is: the refusal in the high 32 bits and the word in the low 32. Definitions only.
-use Rattle.std.specs.Prelude.{ℕ, ◌+◌, ◌-◌, ◌*◌, ◌^◌, cond, not, ◌&&◌, leb, eqb}
+use Rattle.std.specs.Prelude.{ℕ, ◌≡◌, ◌+◌, ◌-◌, ◌*◌, ◌/◌, ◌%◌, ◌^◌, cond, not, ◌&&◌, leb, eqb, Result}
+use Rattle.std.specs.Result.{result_unwrap_or}
+use Rattle.refusals.specs.declared.Refusal.{Refusal}
+use Rattle.refusals.specs.Given.{refusal_given}
 use Rattle.raw.specs.Raw.{kernel_of, operands_of, raw_of}
 use Rattle.guard.specs.Refusals.{refusal_of}
 use Rattle.guard.specs.Guarded.{value_of}
 
 abbrev pub packed : ℕ → ℕ → ℕ
 packed n w = n * 2 ^ 32 + w
+
+-- the answer r is the refusal in the high 32 bits of n, or where they are 0 the word in the low 32
+pub record Unpacks (n : ℕ) (r : Result ℕ Refusal) : Type 0 where
+  pub refusal : refusal_given r ≡ n / 2 ^ 32
+  pub word : result_unwrap_or r 0 ≡ n % 2 ^ 32
 
 -- the word beside the refusal n: 0, or where n is 0 the word w
 abbrev pub word_beside : ℕ → ℕ → ℕ

@@ -1,24 +1,36 @@
-// An operation by its number, raw or guarded, on two words: the refusal in the high 32 bits of the
-// answer and the word in the low 32.
+// An operation by its number, raw or guarded, on two words: the word that it gives, or why there is
+// none; and the same packed, the refusal in the high 32 bits and the word in the low 32.
 ghost use Rattle.std.specs.Prelude.{◌≡◌};
-ghost use Rattle.guard.specs.Guarded.{refusal_given, word_of};
-ghost use Rattle.frame.specs.Words.{packed, kernel_number, shape_of, words_of};
+ghost use Rattle.std.specs.Result.{result_unwrap_or};
+ghost use Rattle.refusals.specs.Given.{refusal_given};
+ghost use Rattle.guard.specs.Guarded.{word_of};
+ghost use Rattle.frame.specs.Words.{packed, kernel_number, shape_of, words_of, Unpacks};
 
+use float::F32;
 use guard::Answer;
+use refusals::Refusal;
 
 // An operation that is not there is refused with 6, a second word that the operation does not use
 // and that is not zero with 7, and a guarded operation with 1 to 5 or 9.
-pub fn answer(op: u32, a: u32, b: u32) -> u64
+#[inline(always)]
+pub fn answer(op: u32, a: u32, b: u32) -> Result<u32, Refusal>
+    ensures { Unpacks (words_of op a b) result }
+{
+    shape_of(raw::operands(kernel_number(op)), b)?;
+    if op >= RAW {
+        return Ok(raw::answer(op - RAW, a, b));
+    }
+    let value = guard::call(op, a, b)?;
+    Ok(F32::of(value.number).0)
+}
+
+// The same, packed: a Result comes back through memory, and this in a register, which the calls for C
+// and the strips count on.
+#[inline(never)]
+pub fn packed_answer(op: u32, a: u32, b: u32) -> u64
     ensures { result ≡ words_of op a b }
 {
-    let refusal = shape_of(raw::operands(kernel_number(op)), b);
-    if refusal != 0 {
-        return refused(refusal);
-    }
-    if op >= RAW {
-        return raw::answer(op - RAW, a, b) as u64;
-    }
-    of_answer(guard::call(op, a, b))
+    packed(answer(op, a, b))
 }
 
 // From here on an operation is a raw one.
@@ -34,20 +46,32 @@ pub fn kernel_number(op: u32) -> u32
     op
 }
 
-// The refusal by the number of words that an operation reads: 6 where it is no operation, 7 where
-// the second word is not used and not zero, else 0.
-fn shape_of(operands: u32, b: u32) -> u32
-    ensures { result ≡ shape_of operands b }
+// By the number of words that an operation reads: one that reads none is no operation, and a second
+// word that is not used is zero.
+fn shape_of(operands: u32, b: u32) -> Result<(), Refusal>
+    ensures { refusal_given result ≡ shape_of operands b }
 {
     if operands == 0 {
-        return 6;
+        return Err(Refusal::NoSuchOperation);
     }
     if (operands == 1) & (b != 0) {
-        return 7;
+        return Err(Refusal::Malformed);
     }
-    0
+    Ok(())
 }
 
+// A refusal is packed with the word 0.
+#[inline(always)]
+pub fn packed(answer: Result<u32, Refusal>) -> u64
+    ensures { result ≡ packed (refusal_given answer) (result_unwrap_or answer 0) }
+{
+    match answer {
+        Ok(word) => word as u64,
+        Err(refusal) => refused(refusal.into()),
+    }
+}
+
+// A refusal by its number.
 pub fn refused(refusal: u32) -> u64
     ensures { result ≡ packed refusal 0 }
 {
@@ -57,5 +81,5 @@ pub fn refused(refusal: u32) -> u64
 pub fn of_answer(answer: Answer) -> u64
     ensures { result ≡ packed (refusal_given answer) (word_of answer) }
 {
-    answer.refusal() as u64 * 0x1_0000_0000 + answer.word() as u64
+    packed(answer.map(|value| F32::of(value.number).0))
 }

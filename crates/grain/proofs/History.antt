@@ -17,8 +17,7 @@ use Rattle.format.specs.Value.{Finite}
 use Rattle.format.proofs.Fields.{exponent_lt}
 use Rattle.format.proofs.Order.{either}
 use Rattle.grain.specs.declared.Grain.{Grain}
-use Rattle.grain.specs.declared.Offered.{Offered}
-use Rattle.grain.specs.Grain.{fresh, most_offers, most_samples, largest, taken, turned_away, refusal_of, made, record_after, offered}
+use Rattle.grain.specs.Grain.{fresh, most_offers, most_samples, largest, taken, turned_away, refusal_of, made, record_after, Offered, offered}
 use Rattle.grain.specs.History.{after, accepted_in, refused_in, one_if_taken, one_if_refused, EachTaken}
 use Rattle.grain.proofs.Answers.{worn_out}
 

@@ -6,7 +6,6 @@ use Rattle.std.specs.Float.Ieee.{add, sub, mul, div, of_int, of_bits}
 use Rattle.format.specs.Fields.{magnitude}
 use Rattle.format.specs.Classes.{is_endless}
 use Rattle.grain.specs.declared.Grain.{Grain}
-use Rattle.grain.specs.declared.Offered.{Offered}
 
 -- nothing offered yet; mean and sum are +0
 abbrev pub fresh : Grain
@@ -53,6 +52,11 @@ made n g w = cond (eqb n 12) g (cond (eqb n 0) (taken g (of_bits binary32 w)) (t
 
 unfoldable pub record_after : Grain → ℕ → Grain
 record_after g w = made (refusal_of g w) g w
+
+-- what an offer answers: the refusal, 0 where the sample is taken, and the record afterwards
+pub record Offered : Type 0 where
+  pub refusal : ℕ
+  pub grain : Grain
 
 unfoldable pub offered : Grain → ℕ → Offered
 offered g w = record { refusal = refusal_of g w; grain = record_after g w }

@@ -1,11 +1,14 @@
 // Grain statistics: a running mean and the summed square deviation from it, kept in a record that one
-// offer after another changes, here by value. The exported call of `dampmeadow` changes it in place.
+// offer after another changes in place.
 #![tactic(auto)]
 
 ghost use Rattle.std.specs.Prelude.{◌≡◌, ◌+◌, ◌<◌};
-ghost use Rattle.grain.specs.Grain.{fresh, most_offers, most_samples, taken, turned_away, offered};
+ghost use Rattle.refusals.specs.Given.{refusal_given};
+ghost use Rattle.grain.specs.Grain.{fresh, most_offers, most_samples, taken, turned_away, Leaves};
 
 use float::{F32, cast};
+use format::Number;
+use refusals::Refusal;
 
 // How many samples were taken and how many refused, the mean of those taken, and the sum of their
 // squared deviations from it. Laid out as C lays it out.
@@ -16,13 +19,6 @@ pub struct Grain {
     pub refused: u32,
     pub mean: f32,
     pub sum: f32,
-}
-
-// What an offer answers: the refusal, 0 where the sample is taken, and the record afterwards.
-#[derive(Clone, Copy)]
-pub struct Offered {
-    pub refusal: u32,
-    pub grain: Grain,
 }
 
 impl Grain {
@@ -44,44 +40,34 @@ impl Grain {
         }
     }
 
-    // Offers a sample. It is refused with 12 where the record has counted all the offers that it can,
-    // and nothing changes then; else with 1 for an infinity or a NaN, with 4 for a size above 2^20 and
-    // with 11 where the record is full, and one more is refused.
-    pub fn offer(self, sample: F32) -> Offered
-        ensures { result ≡ offered self sample.0 }
+    // Offers a sample. It is refused where the record has counted all the offers that it can, and
+    // nothing changes then; else an infinity or a NaN, a size above 2^20 and a sample to a full record
+    // are, in this order, and one more is refused.
+    pub fn offer(&mut self, sample: F32) -> Result<(), Refusal>
+        ensures { Leaves self.old sample.0 (refusal_given result) self.new }
     {
         if self.count as u64 + self.refused as u64 >= Grain::MOST_OFFERS {
-            return Offered {
-                refusal: 12,
-                grain: self,
-            };
+            return Err(Refusal::WornOut);
         }
         if sample.extract_exponent_bits() == 255 {
-            return Offered {
-                refusal: 1,
-                grain: turned_away(self),
-            };
+            *self = turned_away(*self);
+            return Err(Refusal::NotFinite);
         }
         if sample.without_sign().0 > Grain::LARGEST {
-            return Offered {
-                refusal: 4,
-                grain: turned_away(self),
-            };
+            *self = turned_away(*self);
+            return Err(Refusal::Outside);
         }
         if self.count >= Grain::MOST_SAMPLES {
-            return Offered {
-                refusal: 11,
-                grain: turned_away(self),
-            };
+            *self = turned_away(*self);
+            return Err(Refusal::Full);
         }
-        Offered {
-            refusal: 0,
-            grain: taken(self, sample.value()),
-        }
+        *self = taken(*self, sample.value());
+        Ok(())
     }
 }
 
 // One more refused, and the statistics as they were.
+#[tactic(auto, unfolding(crate::specs::Grain::turned_away))]
 fn turned_away(g: Grain) -> Grain
     requires { g.count + g.refused < most_offers }
     ensures { result ≡ turned_away g }
@@ -95,6 +81,7 @@ fn turned_away(g: Grain) -> Grain
 }
 
 // One more sample, in Welford's steps, each rounded once.
+#[tactic(auto, unfolding(crate::specs::Grain::taken))]
 fn taken(g: Grain, x: f32) -> Grain
     requires { g.count < most_samples }
     ensures { result ≡ taken g x }

@@ -17,11 +17,11 @@ use Rattle.float.specs.Powi.{works, early, products_of}
 use Rattle.float.proofs.Products.{early_takes_none, squaring_takes_one, takes_at_most_39, power_0_takes_none}
 use Rattle.float.proofs.Rows.{Row, ◌gives◌, agree}
 use Rattle.raw.specs.Raw.{kernel_of, operands_of}
-use Rattle.guard.specs.declared.Answer.{Answer}
 use Rattle.guard.specs.Operations.{op_ln, op_powi, op_powf}
 use Rattle.guard.specs.Gates.{judged}
 use Rattle.guard.specs.Refusals.{refusal_behind, refusal_of}
-use Rattle.guard.specs.Guarded.{Answered, GivesAfter, Gives, products_at, products_given, Guards, refusal_by_number, GuardsByNumber}
+use Rattle.refusals.specs.Given.{Answered}
+use Rattle.guard.specs.Guarded.{Answer, products_in, GivesAfter, Gives, products_at, products_given, Guards, refusal_by_number, GuardsByNumber}
 use Rattle.guard.proofs.Gives.{none_answered, answered_count}
 use Rattle.guard.proofs.Open.{opened}
 
@@ -29,11 +29,11 @@ use Rattle.guard.proofs.Open.{opened}
 
 module _ {p : ℕ} (n w : ℕ) (r : Answer) (g : GivesAfter p n w r) where
   -- a refused call counts none, whatever was worked out before it was known
-  pub refused_counts_none : (Answered r → ⊥) → r.products ≡ 0
+  pub refused_counts_none : (Answered r → ⊥) → products_in r ≡ 0
   refused_counts_none h = g.count ∙ rw (ne_eqb n 0 (λ e. h (none_answered g e)))
 
   -- what a call may have formed at most, it counts at most
-  at_most : (k : ℕ) → (n ≡ 0 → p ≤ k) → r.products ≤ k
+  at_most : (k : ℕ) → (n ≡ 0 → p ≤ k) → products_in r ≤ k
   at_most k h = subst (λ (c : ℕ). c ≤ k) (sym g.count) (go (eqb n 0) refl)
     where
       go : (t : Bool) → eqb n 0 ≡ t → cond t p 0 ≤ k
@@ -41,7 +41,7 @@ module _ {p : ℕ} (n w : ℕ) (r : Answer) (g : GivesAfter p n w r) where
       go false e = omega arith
 
   -- a call that forms none counts none
-  none_formed : p ≡ 0 → r.products ≡ 0
+  none_formed : p ≡ 0 → products_in r ≡ 0
   none_formed e = g.count ∙ ap (cond (eqb n 0) p) (sym e) ∙ same (eqb n 0) ∙ e
     where
       same : (t : Bool) → cond t p p ≡ p
@@ -49,7 +49,7 @@ module _ {p : ℕ} (n w : ℕ) (r : Answer) (g : GivesAfter p n w r) where
       same false = refl
 
 -- so each call that is stated with no product, as atan_norm is
-pub gives_counts_none : (n w : ℕ) (r : Answer) → Gives n w r → r.products ≡ 0
+pub gives_counts_none : (n w : ℕ) (r : Answer) → Gives n w r → products_in r ≡ 0
 gives_counts_none n w r g = none_formed n w r g refl
 
 -- ---- every operation
@@ -78,32 +78,32 @@ module _ (op a b : ℕ) where
   behind e = not_6 (eqb (operands_of (kernel_of op)) 0) (refusal_of op a b) e
 
   module _ (r : Answer) (g : Guards op a b r) where
-    pub at_most_39_products : r.products ≤ 39
+    pub at_most_39_products : products_in r ≤ 39
     at_most_39_products = at_most _ _ r g 39 within_gate
 
-    pub others_count_none : (op ≡ op_powi → ⊥) → r.products ≡ 0
+    pub others_count_none : (op ≡ op_powi → ⊥) → products_in r ≡ 0
     others_count_none n = none_formed _ _ r g (powi_alone n)
 
   module _ (r : Answer) (g : GuardsByNumber op a b r) where
-    pub at_most_39_by_number : r.products ≤ 39
+    pub at_most_39_by_number : products_in r ≤ 39
     at_most_39_by_number = at_most _ _ r g 39 (λ e. within_gate (behind e))
 
-    pub others_count_none_by_number : (op ≡ op_powi → ⊥) → r.products ≡ 0
+    pub others_count_none_by_number : (op ≡ op_powi → ⊥) → products_in r ≡ 0
     others_count_none_by_number n = none_formed _ _ r g (powi_alone n)
 
 -- ---- powi: none exactly where none is formed
 
 module _ (a b : ℕ) (r : Answer) (g : Guards op_powi a b r) where
   -- an early answer counts none
-  pub early_counts_none : (v : ℕ) → early a (to_z w32 b) ≡ some v → r.products ≡ 0
+  pub early_counts_none : (v : ℕ) → early a (to_z w32 b) ≡ some v → products_in r ≡ 0
   early_counts_none v e = none_formed _ _ r g (early_takes_none a (to_z w32 b) v e).0
 
   -- every other answer counts one at least
-  pub squaring_counts_one : Answered r → early a (to_z w32 b) ≡ none → 1 ≤ r.products
+  pub squaring_counts_one : Answered r → early a (to_z w32 b) ≡ none → 1 ≤ products_in r
   squaring_counts_one h e = rw (answered_count g h) (squaring_takes_one a (to_z w32 b) e)
 
 -- to the power 0 it counts none, which is answered early
-pub power_0_counts_none : (a : ℕ) (r : Answer) → Guards op_powi a 0 r → r.products ≡ 0
+pub power_0_counts_none : (a : ℕ) (r : Answer) → Guards op_powi a 0 r → products_in r ≡ 0
 power_0_counts_none a r g = none_formed _ _ r g (power_0_takes_none a)
 
 -- ---- known counts: both sides of each test, and each refusal of powi

@@ -3,12 +3,13 @@
 use Prim.Native.Nat.{ℕ, zero, suc, ◌^◌, ◌<◌}
 use native.Mathlib.Nat.{lt_of_lt_of_le}
 use native.Mathlib.Omega.{arith}
-use mathlib.Core.Path.{◌≡◌, refl, sym, ap, ◌∙◌}
+use mathlib.Core.Path.{◌≡◌, refl, sym, ap, subst, ◌∙◌}
 use mathlib.Core.Bool.{Bool, true, false, cond, ◌&&◌}
 use mathlib.Core.List.{List, ◌∷◌, ◌++◌}
 use borrow.Author.Tests.{ne_eqb, eqb-true}
 use lib.Dec.{eqb, lit<}
-use lib.Ieee.{Float, binary32, is_nan, nan_bits, of_bits}
+use lib.Ieee.{binary32, is_nan, nan_bits}
+use Rattle.std.specs.Prelude.{Ok}
 use lib.Ieee.Bits.{nan_bits_is}
 use Rattle.format.specs.Fields.{magnitude}
 use Rattle.format.specs.Classes.{is_endless, is_zero}
@@ -19,12 +20,12 @@ use Rattle.format.proofs.Fields.{magnitude_lt}
 use Rattle.float.specs.DivEuclid.{quotient_word}
 use Rattle.sizes.proofs.Euclid.{zero_divisor_is_outside}
 use Rattle.raw.specs.Raw.{Kernel, none, one, two, kernels, kernel_of, operands_of, raw_of}
-use Rattle.guard.specs.declared.Guarded.TheVariants.{Number}
-use Rattle.guard.specs.declared.Answer.{Answer}
+use Rattle.guard.specs.declared.Value.{Value}
 use Rattle.guard.specs.Operations.{op_sqrt, op_rem_euclid, op_div_euclid}
 use Rattle.guard.specs.Gates.{gate_of, passes, judged}
 use Rattle.guard.specs.Refusals.{refusals, refusal_behind, refusal_of}
-use Rattle.guard.specs.Guarded.{given_after, refusal_given, word_of, second_of, Answered, GivesAfter, value_of, products_at, Guards, refusal_by_number, GuardsByNumber}
+use Rattle.refusals.specs.Given.{refusal_given, Answered, given}
+use Rattle.guard.specs.Guarded.{Answer, word_of, value_after, given_after, GivesAfter, value_of, products_at, Guards, refusal_by_number, GuardsByNumber}
 use Rattle.guard.proofs.Each.{Each, done, ◌⨟◌, of_each}
 use Rattle.guard.proofs.First.{first_given, none_given, none_holds}
 use Rattle.guard.proofs.Gives.{answered_none, none_answered, answered_word}
@@ -34,23 +35,19 @@ use Rattle.guard.proofs.NoNan.{no_nan}
 -- ---- any call
 
 module _ {p : ℕ} (n w : ℕ) (r : Answer) (g : GivesAfter p n w r) where
-  second_zero : (n w : ℕ) → second_of (given_after p n (Number (of_bits binary32 w))) ≡ 0
-  second_zero zero w = refl
-  second_zero (suc n) w = refl
+  -- a refused call's word is zero
+  pub refused_word_is_zero : (Answered r → ⊥) → word_of r ≡ 0
+  refused_word_is_zero h = g.word ∙ rw (ne_eqb n 0 (λ e. h (none_answered g e)))
 
-  -- a refused call's words are zero
-  pub refused_words_are_zero : (Answered r → ⊥) → (word_of r ≡ 0) × (second_of r ≡ 0)
-  refused_words_are_zero h = (g.word ∙ rw (ne_eqb n 0 (λ e. h (none_answered g e))), ap second_of g.answer ∙ second_zero n w)
-
-  taken_out : (n : ℕ) (x y : Float) → (given_after p n (Number x)).result ≡ Number y → (n ≡ 0) × (x ≡ y)
+  taken_out : (n : ℕ) (x y : Value) → given n x ≡ Ok y → (n ≡ 0) × (x ≡ y)
   taken_out zero x y e = (refl, cc)
-  taken_out (suc n) x y e = absurd (let z : ◌≡◌ {A = ℕ} 0 1 = cc in omega arith)
+  taken_out (suc n) x y e = absurd (subst Answered (sym e) tt)
 
   -- no answered value is a NaN, where its word is none
-  pub never_a_nan_of : (n ≡ 0 → nan_bits binary32 w ≡ false) → (x : Float) → r.result ≡ Number x → is_nan x ≡ false
-  never_a_nan_of h x e =
-      let t = taken_out n (of_bits binary32 w) x (sym (ap (λ (s : Answer). s.result) g.answer) ∙ e) in
-      ap is_nan (sym t.1) ∙ sym (nan_bits_is binary32 w) ∙ h t.0
+  pub never_a_nan_of : (n ≡ 0 → nan_bits binary32 w ≡ false) → (v : Value) → r ≡ Ok v → is_nan v.number ≡ false
+  never_a_nan_of h v e =
+      let t = taken_out n (value_after p w) v (sym g.answer ∙ e) in
+      ap (λ (u : Value). is_nan u.number) (sym t.1) ∙ sym (nan_bits_is binary32 w) ∙ h t.0
 
 -- ---- every operation
 
@@ -76,7 +73,7 @@ module _ (op a b : ℕ) (r : Answer) (g : Guards op a b r) where
   none_holds_where_answered h = none_holds op a b (answered_none g h)
 
   -- no answered value is a NaN
-  pub never_a_nan : a < 2 ^ 32 → b < 2 ^ 32 → (x : Float) → r.result ≡ Number x → is_nan x ≡ false
+  pub never_a_nan : a < 2 ^ 32 → b < 2 ^ 32 → (v : Value) → r ≡ Ok v → is_nan v.number ≡ false
   never_a_nan h k = never_a_nan_of (refusal_of op a b) (value_of op a b) r g (no_nan op a b h k)
 
 -- no refusal of sqrt holds of a zero
@@ -97,7 +94,7 @@ by_kernel : (op a b : ℕ) → eqb (operands_of (kernel_of op)) 0 ≡ false → 
 by_kernel op a b k = ap (λ (t : Bool). cond t 6 (refusal_of op a b)) k
 
 pub by_number : (op a b : ℕ) (r s : Answer) → eqb (operands_of (kernel_of op)) 0 ≡ false → Guards op a b r → GuardsByNumber op a b s → s ≡ r
-by_number op a b r s k g n = n.answer ∙ ap (λ (m : ℕ). given_after (products_at op a b) m (Number (of_bits binary32 (value_of op a b)))) (by_kernel op a b k) ∙ sym g.answer
+by_number op a b r s k g n = n.answer ∙ ap (λ (m : ℕ). given_after (products_at op a b) m (value_of op a b)) (by_kernel op a b k) ∙ sym g.answer
 
 -- one that has none is refused with 6 and the zero word
 pub unknown_is_refused : (op a b : ℕ) (r : Answer) → kernel_of op ≡ none → GuardsByNumber op a b r → (refusal_given r ≡ 6) × (word_of r ≡ 0)

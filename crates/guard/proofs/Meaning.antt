@@ -5,7 +5,7 @@ use native.Mathlib.Omega.{arith}
 use mathlib.Core.Path.{◌≡◌, refl, sym, ap, ◌∙◌}
 use mathlib.Core.Bool.{false}
 use lib.Dec.{lit<}
-use lib.Ieee.{binary32, nan_bits, of_bits}
+use lib.Ieee.{binary32, nan_bits}
 use Rattle.format.specs.Classes.{is_zero}
 use Rattle.format.specs.Sign.{turned_word}
 use Rattle.format.specs.Value.{units}
@@ -23,12 +23,11 @@ use Rattle.format.proofs.Invsqrt.{invsqrt_bound, invsqrt_tight}
 use Rattle.float.specs.RemEuclid.{LeftBy}
 use Rattle.sizes.proofs.Euclid.{divisor_not_zero}
 use Rattle.sizes.proofs.Remainder.{rem_euclid_within}
-use Rattle.guard.specs.declared.Guarded.TheVariants.{Number}
-use Rattle.guard.specs.declared.Answer.{Answer}
 use Rattle.guard.specs.Operations.{op_trunc, op_fract, op_floor, op_ceil, op_round, op_sqrt, op_invsqrt, op_inv, op_rem_euclid}
 use Rattle.guard.specs.Gates.{judged}
 use Rattle.guard.specs.Refusals.{refusal_behind, refusal_of}
-use Rattle.guard.specs.Guarded.{refused_with, given, word_of, Answered, Guards, TurnsSign}
+use Rattle.refusals.specs.Given.{Answered, refused_with}
+use Rattle.guard.specs.Guarded.{Answer, word_of, given_after, Guards, TurnsSign}
 use Rattle.guard.proofs.Gives.{numbered, answered_none, none_answered, answered_word}
 use Rattle.guard.proofs.Open.{Open, opened}
 use Rattle.guard.proofs.NoNan.{under32, to31, under23, invertible, quotient_under}
@@ -110,10 +109,10 @@ inv_turns a r k g s t = (t.refusal ∙ inv_refused_alike a 0 ∙ sym g.refusal, 
         answered_word t (none_answered t (inv_refused_alike a 0 ∙ answered_none g h)) ∙ inv_sign binary32 a k ∙ ap (turned_word binary32) (sym (answered_word g h))
 
 -- a call of 1 that answers -1, as the call of -1 does, is none of these, and neither is one that refuses 1
-pub sign_is_told : (TurnsSign op_inv 0x3f80_0000 (given 0 (Number (of_bits binary32 0xbf80_0000))) → ⊥) × (TurnsSign op_inv 0x3f80_0000 (refused_with 4) → ⊥)
+pub sign_is_told : (TurnsSign op_inv 0x3f80_0000 (given_after 0 0 0xbf80_0000) → ⊥) × (TurnsSign op_inv 0x3f80_0000 (refused_with 4) → ⊥)
 unfolding nan_bits refusal_behind judged
 sign_is_told =
-    let g : Guards op_inv 0xbf80_0000 0 (given 0 (Number (of_bits binary32 0xbf80_0000))) = numbered 0 0xbf80_0000 (lit< tt) refl refl in (
+    let g : Guards op_inv 0xbf80_0000 0 (given_after 0 0 0xbf80_0000) = numbered 0 0xbf80_0000 (lit< tt) refl refl in (
       λ t. let z : ◌≡◌ {A = ℕ} 0xbf80_0000 0x3f80_0000 = sym g.word ∙ (t _ g).1 tt ∙ ap (turned_word binary32) g.word in omega arith,
       λ t. let z : ◌≡◌ {A = ℕ} 0 4 = (t _ g).0 in omega arith,
     )

@@ -1,14 +1,16 @@
 -- Any two answers that a statement of this crate allows coincide: an entry for every public function. Assumes nothing.
+use Prim.Native.Nat.{ℕ}
+use mathlib.Core.Path.{sym, ◌∙◌}
 use contract.Lifetimes.{Lfts}
 use Rattle.format.proofs.Pinned.{OneAnswer, pinned}
-use Rattle.guard.proofs.Answer.refusal.Reads as answer_refusal_reads
-use Rattle.guard.proofs.Answer.word.Reads as answer_word_reads
-use Rattle.guard.proofs.Answer.second_word.Reads as answer_second_word_reads
+use Rattle.refusals.proofs.Given.{told}
+use Rattle.guard.proofs.word.Reads as word_reads
+use Rattle.guard.proofs.products.Reads as products_reads
+use Rattle.guard.proofs.part_words.Reads as part_words_reads
 use Rattle.guard.proofs.gate.of.Reads as gate_of_reads
 use Rattle.guard.proofs.gate.passes.Reads as gate_passes_reads
 use Rattle.guard.proofs.gate.judged.Reads as gate_judged_reads
 use Rattle.guard.proofs.refusal.first.Reads as refusal_first_reads
-use Rattle.guard.proofs.refusal.is_zero.Reads as refusal_is_zero_reads
 use Rattle.guard.proofs.trunc.Reads as trunc_reads
 use Rattle.guard.proofs.fract.Reads as fract_reads
 use Rattle.guard.proofs.floor.Reads as floor_reads
@@ -39,14 +41,14 @@ use Rattle.guard.proofs.atan_norm.Reads as atan_norm_reads
 use Rattle.guard.proofs.parts.Reads as parts_reads
 use Rattle.guard.proofs.call.Reads as call_reads
 
-pub answer_refusal : (κs : Lfts 0) → OneAnswer (answer_refusal_reads.Post κs) (λ r x. r)
-answer_refusal κs = pinned _ (λ a r x p. p)
+pub word : (κs : Lfts 0) → OneAnswer (word_reads.Post κs) (λ r x. r)
+word κs = pinned _ (λ a r x p. p)
 
-pub answer_word : (κs : Lfts 0) → OneAnswer (answer_word_reads.Post κs) (λ r x. r)
-answer_word κs = pinned _ (λ a r x p. p)
+pub products : (κs : Lfts 0) → OneAnswer (products_reads.Post κs) (λ r x. r)
+products κs = pinned _ (λ a r x p. p)
 
-pub answer_second_word : (κs : Lfts 0) → OneAnswer (answer_second_word_reads.Post κs) (λ r x. r)
-answer_second_word κs = pinned _ (λ a r x p. p)
+pub part_words : (κs : Lfts 0) → OneAnswer {S = ℕ × ℕ} (part_words_reads.Post κs) (λ r x. (r.0, r.1))
+part_words κs = λ a r s x y p q. let e = p.0 ∙ sym q.0 in let d = p.1 ∙ sym q.1 in cc
 
 pub gate_of : (κs : Lfts 0) → OneAnswer (gate_of_reads.Post κs) (λ r x. r)
 gate_of κs = pinned _ (λ a r x p. p)
@@ -58,10 +60,7 @@ pub gate_judged : (κs : Lfts 0) → OneAnswer (gate_judged_reads.Post κs) (λ 
 gate_judged κs = pinned _ (λ a r x p. p)
 
 pub refusal_first : (κs : Lfts 0) → OneAnswer (refusal_first_reads.Post κs) (λ r x. r)
-refusal_first κs = pinned _ (λ a r x p. p)
-
-pub refusal_is_zero : (κs : Lfts 0) → OneAnswer (refusal_is_zero_reads.Post κs) (λ r x. r)
-refusal_is_zero κs = pinned _ (λ a r x p. p)
+refusal_first κs = pinned _ (λ a r x p. told _ r p)
 
 pub trunc : (κs : Lfts 0) → OneAnswer (trunc_reads.Post κs) (λ r x. r)
 trunc κs = pinned _ (λ a r x p. p.0.answer)

@@ -1,6 +1,6 @@
 -- What a guarded call answers, and the answer as words: a refusal's number, 0 where there is none, and one word or two; and how many products
 -- were formed for it. Definitions only.
-use Rattle.std.specs.Prelude.{ℕ, zero, suc, ◌≡◌, cond, ◌&&◌, eqb}
+use Rattle.std.specs.Prelude.{ℕ, ◌≡◌, cond, ◌&&◌, eqb, Result, Ok, Err}
 use Rattle.std.specs.Float.{binary32}
 use Rattle.std.specs.Float.Ieee.{of_bits, to_bits}
 use Rattle.std.specs.Int.{w32}
@@ -10,69 +10,52 @@ use Rattle.format.specs.Sign.{turned_word}
 use Rattle.format.specs.Parts.{trunc_word, fract_word}
 use Rattle.float.specs.Powi.{products_of}
 use Rattle.raw.specs.Raw.{Kernel, kernel_of, operands_of, raw_of}
-use Rattle.guard.specs.declared.Guarded.{Guarded}
-use Rattle.guard.specs.declared.Guarded.TheVariants.{Number, Parts, Refused}
-use Rattle.guard.specs.declared.Answer.{Answer}
+use Rattle.refusals.specs.declared.Refusal.{Refusal}
+use Rattle.refusals.specs.Given.{refusal_given, Answered, given}
+use Rattle.guard.specs.declared.Value.{Value}
+use Rattle.guard.specs.declared.WholeAndRest.{WholeAndRest}
 use Rattle.guard.specs.Operations.{op_trunc, op_sqrt, op_powi}
 use Rattle.guard.specs.Refusals.{refusal_of}
 
 -- ---- an answer as words
 
-abbrev pub refusal_in : Guarded → ℕ
-refusal_in (Number x) = 0
-refusal_in (Parts x y) = 0
-refusal_in (Refused n) = n
+abbrev pub Answer : Type 0
+Answer = Result Value Refusal
 
--- a refusal's value is the zero word; only two parts have a second word
-abbrev pub word_in : Guarded → ℕ
-word_in (Number x) = to_bits binary32 x
-word_in (Parts x y) = to_bits binary32 x
-word_in (Refused n) = 0
-
-abbrev pub second_in : Guarded → ℕ
-second_in (Number x) = 0
-second_in (Parts x y) = to_bits binary32 y
-second_in (Refused n) = 0
-
-abbrev pub refusal_given : Answer → ℕ
-refusal_given r = refusal_in r.result
-
+-- a refusal's value is the zero word
 abbrev pub word_of : Answer → ℕ
-word_of r = word_in r.result
+word_of (Ok v) = to_bits binary32 v.number
+word_of (Err r) = 0
 
-abbrev pub second_of : Answer → ℕ
-second_of r = second_in r.result
+-- a refusal has no products
+abbrev pub products_in : Answer → ℕ
+products_in (Ok v) = v.products
+products_in (Err r) = 0
 
--- the call was not refused
-abbrev pub AnsweredIn : Guarded → Type 0
-AnsweredIn (Number x) = Unit {0}
-AnsweredIn (Parts x y) = Unit {0}
-AnsweredIn (Refused n) = ⊥
+abbrev pub whole_of : Result WholeAndRest Refusal → ℕ
+whole_of (Ok p) = to_bits binary32 p.whole
+whole_of (Err r) = 0
 
-abbrev pub Answered : Answer → Type 0
-Answered r = AnsweredIn r.result
+abbrev pub rest_of : Result WholeAndRest Refusal → ℕ
+rest_of (Ok p) = to_bits binary32 p.rest
+rest_of (Err r) = 0
 
 -- ---- what each call answers
 
--- a refusal has no products, whatever was worked out before it was known
-abbrev pub refused_with : ℕ → Answer
-refused_with n = record { result = Refused n; products = 0 }
+-- the number whose word is w, for which p products were formed
+abbrev pub value_after : ℕ → ℕ → Value
+value_after p w = record { number = of_bits binary32 w; products = p }
 
--- refused with n, or where n is 0 answered with g, for which p products were formed
-abbrev pub given_after : ℕ → ℕ → Guarded → Answer
-given_after p zero g = record { result = g; products = p }
-given_after p (suc n) g = refused_with (suc n)
-
--- the same with no product
-abbrev pub given : ℕ → Guarded → Answer
-given n g = given_after 0 n g
+-- refused with n, or where n is 0 answered with that number
+abbrev pub given_after : ℕ → ℕ → ℕ → Answer
+given_after p n w = given n (value_after p w)
 
 -- the answer r is the refusal n, or where n is 0 the number whose word is w, for which p products were formed; and what that is as words
 pub record GivesAfter (p n w : ℕ) (r : Answer) : Type 0 where
-  pub answer : r ≡ given_after p n (Number (of_bits binary32 w))
+  pub answer : r ≡ given_after p n w
   pub refusal : refusal_given r ≡ n
   pub word : word_of r ≡ cond (eqb n 0) w 0
-  pub count : r.products ≡ cond (eqb n 0) p 0
+  pub count : products_in r ≡ cond (eqb n 0) p 0
 
 abbrev pub Gives : ℕ → ℕ → Answer → Type 0
 Gives n w r = GivesAfter 0 n w r
@@ -108,9 +91,8 @@ abbrev pub GuardsByNumber : ℕ → ℕ → ℕ → Answer → Type 0
 GuardsByNumber op a b r = GivesAfter (products_at op a b) (refusal_by_number op a b) (value_of op a b) r
 
 -- trunc and fract together, behind the gate that they share
-pub record GivesParts (w : ℕ) (r : Answer) : Type 0 where
-  pub answer : r ≡ given (refusal_of op_trunc w 0) (Parts (of_bits binary32 (trunc_word binary32 w)) (of_bits binary32 (fract_word binary32 w)))
+pub record GivesParts (w : ℕ) (r : Result WholeAndRest Refusal) : Type 0 where
+  pub answer : r ≡ given (refusal_of op_trunc w 0) (record { whole = of_bits binary32 (trunc_word binary32 w); rest = of_bits binary32 (fract_word binary32 w) })
   pub refusal : refusal_given r ≡ refusal_of op_trunc w 0
-  pub word : word_of r ≡ cond (eqb (refusal_of op_trunc w 0) 0) (trunc_word binary32 w) 0
-  pub second : second_of r ≡ cond (eqb (refusal_of op_trunc w 0) 0) (fract_word binary32 w) 0
-  pub count : r.products ≡ 0
+  pub word : whole_of r ≡ cond (eqb (refusal_of op_trunc w 0) 0) (trunc_word binary32 w) 0
+  pub second : rest_of r ≡ cond (eqb (refusal_of op_trunc w 0) 0) (fract_word binary32 w) 0

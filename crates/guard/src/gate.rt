@@ -5,8 +5,9 @@ ghost use Rattle.format.specs.Fields.{magnitude};
 ghost use Rattle.float.specs.DivEuclid.{quotient_word};
 ghost use Rattle.guard.specs.Gates.{gate_of, place, passes, larger, unless_zero, judged};
 
-use crate::{number, refusal};
+use crate::number;
 use float::{F32, cos};
+use format::Number;
 
 // The lowest and the highest word that pass, both allowed, and a word that is judged the other way:
 // between them it does not pass, and elsewhere it does. Words are ordered as the numbers that they
@@ -52,7 +53,9 @@ const GATES: [Gate; 27] = [
     Gate(0x0000_0000, 0x4aff_ffff, NONE), // div_euclid: the same
 ];
 
-// The row of an operation. The whole table is copied to read it: keep it out of loops.
+// The row of an operation. The whole table is copied to read it, but where the number is a constant,
+// and so it is compiled into its callers: keep it out of loops. Any number has one.
+#[inline(always)]
 pub fn of(op: u32) -> Gate
     ensures { result ≡ gate_of op }
 {
@@ -94,7 +97,7 @@ fn larger(a: F32, b: F32) -> u32
 fn unless_zero(other: u32, x: F32) -> u32
     ensures { result ≡ unless_zero other x.0 }
 {
-    if refusal::is_zero(F32(other)) {
+    if F32(other).is_zero() {
         return F32::INFINITY.0;
     }
     x.abs().0
@@ -106,7 +109,7 @@ fn quotient(x: F32, y: F32) -> u32
     F32::of(x.value() / y.value()).abs().0
 }
 
-// The word that an operation's gate judges.
+// The word that an operation's gate judges, of any number.
 pub fn judged(op: u32, a: F32, b: F32) -> u32
     ensures { result ≡ judged op a.0 b.0 }
 {

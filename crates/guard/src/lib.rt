@@ -14,67 +14,69 @@ ghost use Rattle.float.specs.Atan.{atan_norm_word};
 ghost use Rattle.float.specs.RemEuclid.{LeftBy};
 ghost use Rattle.guard.specs.Operations.{op_trunc, op_fract, op_floor, op_ceil, op_round, op_abs, op_copysign, op_signum, op_sqrt, op_invsqrt, op_inv, op_recip, op_exp, op_ln, op_powi, op_powf, op_atan, op_atan2, op_cos, op_sin, op_hypot, op_asin, op_acos, op_tan, op_rem_euclid, op_div_euclid};
 ghost use Rattle.guard.specs.Refusals.{refusal_of};
-ghost use Rattle.guard.specs.Guarded.{refusal_given, word_of, second_of, Answered, refused_with, GivesAfter, Gives, Guards, TurnsSign, GuardsByNumber, GivesParts};
+ghost use Rattle.refusals.specs.Given.{Answered};
+ghost use Rattle.guard.specs.Guarded.{value_after, word_of, products_in, whole_of, rest_of, value_of, Gives, Guards, TurnsSign, GuardsByNumber, GivesParts};
 
 use float::{F32, cast};
+use format::Number;
+use refusals::Refusal;
 
 pub mod gate;
 pub mod number;
 pub mod refusal;
 
-// What a guarded call gives: a number, two where trunc and fract come together, or the number of
-// the refusal.
-#[derive(Clone, Copy)]
-pub enum Guarded {
-    Number(f32),
-    Parts(f32, f32),
-    Refused(u32),
-}
+// What a guarded call gives: a number, or why there is none.
+pub type Answer = Result<Value, Refusal>;
 
-// The answer that all guarded calls share: the result, and how many products powi formed for it. Of
-// every other call those are 0, and of every refusal.
+// A number, and how many products powi formed for it. Of every other call those are 0.
 #[derive(Clone, Copy)]
-pub struct Answer {
-    pub result: Guarded,
+pub struct Value {
+    pub number: f32,
     pub products: u32,
 }
 
-impl Answer {
-    // The refusal's number, and 0 where the call was answered.
-    pub fn refusal(self) -> u32
-        ensures { result ≡ refusal_given self }
+impl Value {
+    // The number of a word. Of a NaN it has not the bits.
+    fn of(word: F32) -> Value
+        ensures { result ≡ value_after 0 word.0 }
     {
-        let result = self.result;
-        match result {
-            Guarded::Number(_) => 0,
-            Guarded::Parts(_, _) => 0,
-            Guarded::Refused(n) => n,
+        Value {
+            number: word.value(),
+            products: 0,
         }
     }
+}
 
-    // The answer's word; of two parts the first. A refusal's is 0.
-    pub fn word(self) -> u32
-        ensures { result ≡ word_of self }
-    {
-        let result = self.result;
-        match result {
-            Guarded::Number(x) => F32::of(x).0,
-            Guarded::Parts(x, _) => F32::of(x).0,
-            Guarded::Refused(_) => 0,
-        }
-    }
+// The two numbers that trunc and fract give together.
+#[derive(Clone, Copy)]
+pub struct WholeAndRest {
+    pub whole: f32,
+    pub rest: f32,
+}
 
-    // The word of the second part, and 0 where there is none.
-    pub fn second_word(self) -> u32
-        ensures { result ≡ second_of self }
-    {
-        let result = self.result;
-        match result {
-            Guarded::Number(_) => 0,
-            Guarded::Parts(_, y) => F32::of(y).0,
-            Guarded::Refused(_) => 0,
-        }
-    }
+// The answer's word. A refusal's is 0.
+pub fn word(answer: Answer) -> u32
+    ensures { result ≡ word_of answer }
+{
+    answer.map_or(0, |value| F32::of(value.number).0)
+}
+
+// How many products were formed for the answer. A refusal counts none.
+pub fn products(answer: Answer) -> u32
+    ensures { result ≡ products_in answer }
+{
+    answer.map_or(0, |value| value.products)
+}
+
+// The words of the two parts. Beside a refusal both are 0.
+pub fn part_words(parts: Result<WholeAndRest, Refusal>) -> (u32, u32)
+    ensures whole { result.0 ≡ whole_of parts }
+    ensures rest { result.1 ≡ rest_of parts }
+{
+    parts.map_or(
+        (0, 0),
+        |parts| (F32::of(parts.whole).0, F32::of(parts.rest).0),
+    )
 }
 
 // The whole part, with the operand's sign bit.
@@ -82,10 +84,7 @@ pub fn trunc(x: F32) -> Answer
     ensures gate { Guards op_trunc x.0 0 result }
     ensures ieee { Answered result → IsTrunc binary32 x.0 (word_of result) }
 {
-    answered(
-        refusal::first(gate::of(number::TRUNC), number::TRUNC, x, 0),
-        x.trunc(),
-    )
+    answered(number::TRUNC, x, 0, x.trunc())
 }
 
 // The fraction part, with the operand's sign bit.
@@ -93,10 +92,7 @@ pub fn fract(x: F32) -> Answer
     ensures gate { Guards op_fract x.0 0 result }
     ensures ieee { Answered result → IsFract binary32 x.0 (word_of result) }
 {
-    answered(
-        refusal::first(gate::of(number::FRACT), number::FRACT, x, 0),
-        x.fract(),
-    )
+    answered(number::FRACT, x, 0, x.fract())
 }
 
 // The largest whole number not above the operand.
@@ -104,10 +100,7 @@ pub fn floor(x: F32) -> Answer
     ensures gate { Guards op_floor x.0 0 result }
     ensures ieee { Answered result → IsFloor binary32 x.0 (word_of result) }
 {
-    answered(
-        refusal::first(gate::of(number::FLOOR), number::FLOOR, x, 0),
-        x.floor(),
-    )
+    answered(number::FLOOR, x, 0, x.floor())
 }
 
 // The smallest whole number not below the operand.
@@ -115,10 +108,7 @@ pub fn ceil(x: F32) -> Answer
     ensures gate { Guards op_ceil x.0 0 result }
     ensures ieee { Answered result → IsCeil binary32 x.0 (word_of result) }
 {
-    answered(
-        refusal::first(gate::of(number::CEIL), number::CEIL, x, 0),
-        x.ceil(),
-    )
+    answered(number::CEIL, x, 0, x.ceil())
 }
 
 // The nearest whole number, halves away from 0.
@@ -126,37 +116,25 @@ pub fn round(x: F32) -> Answer
     ensures gate { Guards op_round x.0 0 result }
     ensures ieee { Answered result → IsRound binary32 x.0 (word_of result) }
 {
-    answered(
-        refusal::first(gate::of(number::ROUND), number::ROUND, x, 0),
-        x.round(),
-    )
+    answered(number::ROUND, x, 0, x.round())
 }
 
 pub fn abs(x: F32) -> Answer
     ensures { Guards op_abs x.0 0 result }
 {
-    answered(
-        refusal::first(gate::of(number::ABS), number::ABS, x, 0),
-        x.abs(),
-    )
+    answered(number::ABS, x, 0, x.abs())
 }
 
 pub fn copysign(x: F32, sign: F32) -> Answer
     ensures { Guards op_copysign x.0 sign.0 result }
 {
-    answered(
-        refusal::first(gate::of(number::COPYSIGN), number::COPYSIGN, x, sign.0),
-        x.copysign(sign),
-    )
+    answered(number::COPYSIGN, x, sign.0, x.copysign(sign))
 }
 
 pub fn signum(x: F32) -> Answer
     ensures { Guards op_signum x.0 0 result }
 {
-    answered(
-        refusal::first(gate::of(number::SIGNUM), number::SIGNUM, x, 0),
-        x.signum(),
-    )
+    answered(number::SIGNUM, x, 0, x.signum())
 }
 
 // A zero is its own square root.
@@ -164,13 +142,10 @@ pub fn sqrt(x: F32) -> Answer
     ensures gate { Guards op_sqrt x.0 0 result }
     ensures bound { Answered result → SqrtBound binary32 x.0 (word_of result) }
 {
-    if refusal::is_zero(x) {
-        return answered(0, x);
+    if x.is_zero() {
+        return Ok(Value::of(x));
     }
-    answered(
-        refusal::first(gate::of(number::SQRT), number::SQRT, x, 0),
-        x.sqrt(),
-    )
+    answered(number::SQRT, x, 0, x.sqrt())
 }
 
 pub fn invsqrt(x: F32) -> Answer
@@ -178,10 +153,7 @@ pub fn invsqrt(x: F32) -> Answer
     ensures bound { Answered result → InvsqrtBound x.0 (word_of result) }
     ensures tight { Answered result → InvsqrtTight x.0 (word_of result) }
 {
-    answered(
-        refusal::first(gate::of(number::INVSQRT), number::INVSQRT, x, 0),
-        x.invsqrt(),
-    )
+    answered(number::INVSQRT, x, 0, x.invsqrt())
 }
 
 // About 1/x, of either sign: the sign turned turns the answer's, and changes no refusal.
@@ -190,141 +162,105 @@ pub fn inv(x: F32) -> Answer
     ensures bound { Answered result → InvBound binary32 x.0 (word_of result) }
     ensures sign { TurnsSign op_inv x.0 result }
 {
-    let refusal = refusal::first(gate::of(number::INV), number::INV, x, 0);
-    if refusal != 0 {
-        return refused(refusal);
-    }
+    refusal::first(gate::of(number::INV), number::INV, x, 0)?;
     // No NaN behind the gate, so its bits are a float's as they are.
-    Answer {
-        result: Guarded::Number(f32::from_bits(x.inv().0)),
+    Ok(Value {
+        number: f32::from_bits(x.inv().0),
         products: 0,
-    }
+    })
 }
 
 pub fn recip(x: F32) -> Answer
     ensures { Guards op_recip x.0 0 result }
 {
-    answered(
-        refusal::first(gate::of(number::RECIP), number::RECIP, x, 0),
-        x.recip(),
-    )
+    answered(number::RECIP, x, 0, x.recip())
 }
 
 pub fn exp(x: F32) -> Answer
     ensures { Guards op_exp x.0 0 result }
 {
-    answered(
-        refusal::first(gate::of(number::EXP), number::EXP, x, 0),
-        x.exp(),
-    )
+    answered(number::EXP, x, 0, x.exp())
 }
 
 pub fn ln(x: F32) -> Answer
     ensures { Guards op_ln x.0 0 result }
 {
-    answered(
-        refusal::first(gate::of(number::LN), number::LN, x, 0),
-        x.ln(),
-    )
+    answered(number::LN, x, 0, x.ln())
 }
 
-// With the products that it took: none beside a refusal, for the power 0 or where it gives up early,
-// else one at least and 39 at most.
+// With the products that it took: none for the power 0 or where it gives up early, else one at least
+// and 39 at most.
 pub fn powi(x: F32, n: i32) -> Answer
     ensures { Guards op_powi x.0 (of_z w32 n) result }
 {
-    let refusal = refusal::first(
+    refusal::first(
         gate::of(number::POWI),
         number::POWI,
         x,
         cast::bits_of_i32(n),
-    );
+    )?;
     let power = x.powi_counted(n);
-    counted(refusal, power.number, power.products)
+    Ok(Value {
+        number: power.number.value(),
+        products: power.products,
+    })
 }
 
 pub fn powf(x: F32, n: F32) -> Answer
     ensures { Guards op_powf x.0 n.0 result }
 {
-    answered(
-        refusal::first(gate::of(number::POWF), number::POWF, x, n.0),
-        x.powf(n),
-    )
+    answered(number::POWF, x, n.0, x.powf(n))
 }
 
 pub fn atan(x: F32) -> Answer
     ensures { Guards op_atan x.0 0 result }
 {
-    answered(
-        refusal::first(gate::of(number::ATAN), number::ATAN, x, 0),
-        x.atan(),
-    )
+    answered(number::ATAN, x, 0, x.atan())
 }
 
 // y comes first.
 pub fn atan2(y: F32, x: F32) -> Answer
     ensures { Guards op_atan2 y.0 x.0 result }
 {
-    answered(
-        refusal::first(gate::of(number::ATAN2), number::ATAN2, y, x.0),
-        y.atan2(x),
-    )
+    answered(number::ATAN2, y, x.0, y.atan2(x))
 }
 
 pub fn cos(x: F32) -> Answer
     ensures { Guards op_cos x.0 0 result }
 {
-    answered(
-        refusal::first(gate::of(number::COS), number::COS, x, 0),
-        x.cos(),
-    )
+    answered(number::COS, x, 0, x.cos())
 }
 
 pub fn sin(x: F32) -> Answer
     ensures { Guards op_sin x.0 0 result }
 {
-    answered(
-        refusal::first(gate::of(number::SIN), number::SIN, x, 0),
-        x.sin(),
-    )
+    answered(number::SIN, x, 0, x.sin())
 }
 
 pub fn hypot(x: F32, y: F32) -> Answer
     ensures { Guards op_hypot x.0 y.0 result }
 {
-    answered(
-        refusal::first(gate::of(number::HYPOT), number::HYPOT, x, y.0),
-        x.hypot(y),
-    )
+    answered(number::HYPOT, x, y.0, x.hypot(y))
 }
 
 pub fn asin(x: F32) -> Answer
     ensures { Guards op_asin x.0 0 result }
 {
-    answered(
-        refusal::first(gate::of(number::ASIN), number::ASIN, x, 0),
-        x.asin(),
-    )
+    answered(number::ASIN, x, 0, x.asin())
 }
 
 // A zero's is PI/2.
 pub fn acos(x: F32) -> Answer
     ensures { Guards op_acos x.0 0 result }
 {
-    answered(
-        refusal::first(gate::of(number::ACOS), number::ACOS, x, 0),
-        x.acos(),
-    )
+    answered(number::ACOS, x, 0, x.acos())
 }
 
 // Refused where the cosine is a zero too.
 pub fn tan(x: F32) -> Answer
     ensures { Guards op_tan x.0 0 result }
 {
-    answered(
-        refusal::first(gate::of(number::TAN), number::TAN, x, 0),
-        x.tan(),
-    )
+    answered(number::TAN, x, 0, x.tan())
 }
 
 // What whole y leave of x, from 0 to the size of y.
@@ -332,51 +268,41 @@ pub fn rem_euclid(x: F32, y: F32) -> Answer
     ensures gate { Guards op_rem_euclid x.0 y.0 result }
     ensures range { Answered result → LeftBy y.0 (word_of result) }
 {
-    answered(
-        refusal::first(gate::of(number::REM_EUCLID), number::REM_EUCLID, x, y.0),
-        x.rem_euclid(y),
-    )
+    answered(number::REM_EUCLID, x, y.0, x.rem_euclid(y))
 }
 
 // How many whole y those are.
 pub fn div_euclid(x: F32, y: F32) -> Answer
     ensures { Guards op_div_euclid x.0 y.0 result }
 {
-    answered(
-        refusal::first(gate::of(number::DIV_EUCLID), number::DIV_EUCLID, x, y.0),
-        x.div_euclid(y),
-    )
+    answered(number::DIV_EUCLID, x, y.0, x.div_euclid(y))
 }
 
 // As a share of a quarter turn. It has no number of its own, and atan's gate.
 pub fn atan_norm(slope: F32) -> Answer
     ensures { Gives (refusal_of op_atan slope.0 0) (atan_norm_word ieee slope.0) result }
 {
-    answered(
-        refusal::first(gate::of(number::ATAN), number::ATAN, slope, 0),
-        slope.atan_norm(),
-    )
+    refusal::first(gate::of(number::ATAN), number::ATAN, slope, 0)?;
+    Ok(Value::of(slope.atan_norm()))
 }
 
 // trunc and fract together.
-pub fn parts(x: F32) -> Answer
-    ensures gate { GivesParts x.0 result }
-    ensures whole { Answered result → IsTrunc binary32 x.0 (word_of result) }
-    ensures rest { Answered result → IsFract binary32 x.0 (second_of result) }
+pub fn parts(operand: F32) -> Result<WholeAndRest, Refusal>
+    ensures gate { GivesParts operand.0 result }
+    ensures whole { Answered result → IsTrunc binary32 operand.0 (whole_of result) }
+    ensures rest { Answered result → IsFract binary32 operand.0 (rest_of result) }
 {
-    let refusal = refusal::first(gate::of(number::TRUNC), number::TRUNC, x, 0);
-    if refusal != 0 {
-        return refused(refusal);
-    }
-    Answer {
-        result: Guarded::Parts(x.trunc().value(), x.fract().value()),
-        products: 0,
-    }
+    refusal::first(gate::of(number::TRUNC), number::TRUNC, operand, 0)?;
+    Ok(WholeAndRest {
+        whole: operand.trunc().value(),
+        rest: operand.fract().value(),
+    })
 }
 
 // By operation number: what the call of that name answers, and refusal 6 where there is none. An
 // operation of one operand does not look at the second word; powi's power is that word in two's
-// complement.
+// complement. Any number may come, and each arm has a kernel of its own shape.
+#[inline(always)]
 pub fn call(op: u32, a: u32, b: u32) -> Answer
     ensures { GuardsByNumber op a b result }
 {
@@ -407,36 +333,17 @@ pub fn call(op: u32, a: u32, b: u32) -> Answer
         number::TAN => tan(F32(a)),
         number::REM_EUCLID => rem_euclid(F32(a), F32(b)),
         number::DIV_EUCLID => div_euclid(F32(a), F32(b)),
-        _ => refused(6),
+        _ => Err(Refusal::NoSuchOperation),
     }
 }
 
-fn refused(refusal: u32) -> Answer
-    ensures { result ≡ refused_with refusal }
+// What an operation answers, whose kernel gives the word: its refusal or the word's number. It is
+// called with an operation's name, so that its tests and its gate's row are folded in.
+#[inline(always)]
+fn answered(op: u32, a: F32, b: u32, word: F32) -> Answer
+    requires { word.0 ≡ value_of op a.0 b }
+    ensures { Gives (refusal_of op a.0 b) (value_of op a.0 b) result }
 {
-    Answer {
-        result: Guarded::Refused(refusal),
-        products: 0,
-    }
-}
-
-// The refusal where it is not 0, else the word's number. A caller shows that a word which is
-// answered is no NaN, so that the number keeps its bits.
-fn answered(refusal: u32, word: F32) -> Answer
-    ensures { (refusal ≡ 0 → nan_bits binary32 word.0 ≡ false) → Gives refusal word.0 result }
-{
-    counted(refusal, word, 0)
-}
-
-// The same for a number that took some products, which a refusal leaves out.
-fn counted(refusal: u32, word: F32, products: u32) -> Answer
-    ensures { (refusal ≡ 0 → nan_bits binary32 word.0 ≡ false) → GivesAfter products refusal word.0 result }
-{
-    if refusal == 0 {
-        return Answer {
-            result: Guarded::Number(word.value()),
-            products: products,
-        };
-    }
-    refused(refusal)
+    refusal::first(gate::of(op), op, a, b)?;
+    Ok(Value::of(word))
 }

@@ -3,77 +3,54 @@ ghost use Rattle.std.specs.Prelude.{◌≡◌, ◌&&◌, [], ◌∷◌};
 ghost use Rattle.std.specs.Float.{binary32};
 ghost use Rattle.format.specs.Classes.{is_endless, is_zero, is_small, is_below_zero};
 ghost use Rattle.format.specs.First.{among};
+ghost use Rattle.refusals.specs.Given.{refusal_given};
 ghost use Rattle.guard.specs.Operations.{op_powi};
 ghost use Rattle.guard.specs.Refusals.{is_past_power, two_floats, refuses_zero, refuses_small, refuses_sign, refusal_behind};
 
 use crate::gate::Gate;
 use crate::{gate, number};
-use float::{F32, wrap};
+use float::F32;
+use format::Number;
+use refusals::Refusal;
 
-// The first refusal that holds behind the operation's gate, and 0 where none does. The gate comes
-// from the caller: one that names its operation has the row folded in, and one that has many words
-// for an operation reads it once.
-pub fn first(gate: Gate, op: u32, a: F32, b: u32) -> u32
-    ensures { result ≡ refusal_behind gate op a.0 b }
+// The first refusal that holds behind the operation's gate, if one does. The gate comes from the
+// caller: one that names its operation has the row folded in, and one that has many words for an
+// operation reads it once. The operation is a number, here and below: any may come.
+#[tactic(auto, unfolding(crate::specs::Refusals::refusal_behind))]
+pub fn first(gate: Gate, op: u32, a: F32, b: u32) -> Result<(), Refusal>
+    ensures { refusal_given result ≡ refusal_behind gate op a.0 b }
 {
-    if is_endless(a) {
-        return 1;
+    if a.is_endless() {
+        return Err(Refusal::NotFinite);
     }
     if is_second_refused(op, b) {
-        return 1;
+        return Err(Refusal::NotFinite);
     }
     if is_zero_refused(op, a) {
-        return 2;
+        return Err(Refusal::Zero);
     }
     if is_small_refused(op, a) {
-        return 9;
+        return Err(Refusal::Small);
     }
     if is_sign_refused(op, a) {
-        return 3;
+        return Err(Refusal::Negative);
     }
     if !gate::passes(gate, gate::judged(op, a, F32(b))) {
-        return 4;
+        return Err(Refusal::Outside);
     }
     if is_power_refused(op, b) {
-        return 5;
+        return Err(Refusal::PowerOutside);
     }
-    0
-}
-
-// Whether a word is an infinity or a NaN.
-fn is_endless(x: F32) -> bool
-    ensures { result ≡ is_endless binary32 x.0 }
-{
-    x.extract_exponent_bits() == 255
-}
-
-// Whether a word is 0 or -0.
-pub fn is_zero(x: F32) -> bool
-    ensures { result ≡ is_zero binary32 x.0 }
-{
-    x.abs().0 == 0
-}
-
-// Whether a word is nearer to 0 than every normal number, and not 0.
-fn is_small(x: F32) -> bool
-    ensures { result ≡ is_small binary32 x.0 }
-{
-    (x.extract_exponent_bits() == 0) & !is_zero(x)
-}
-
-// Whether a word is below 0, which -0 is not.
-fn is_below_zero(x: F32) -> bool
-    ensures { result ≡ is_below_zero binary32 x.0 }
-{
-    x.is_sign_negative() & !is_zero(x)
+    Ok(())
 }
 
 fn is_second_refused(op: u32, b: u32) -> bool
     ensures { result ≡ (two_floats op && is_endless binary32 b) }
 {
-    takes_two_floats(op) & is_endless(F32(b))
+    takes_two_floats(op) & F32(b).is_endless()
 }
 
+// A list of operations, as `refuses_zero` is another.
 fn takes_two_floats(op: u32) -> bool
     ensures { result ≡ two_floats op }
 {
@@ -91,7 +68,7 @@ fn takes_two_floats(op: u32) -> bool
 fn is_zero_refused(op: u32, a: F32) -> bool
     ensures { result ≡ (refuses_zero op && is_zero binary32 a.0) }
 {
-    refuses_zero(op) & is_zero(a)
+    refuses_zero(op) & a.is_zero()
 }
 
 fn refuses_zero(op: u32) -> bool
@@ -112,13 +89,13 @@ fn refuses_zero(op: u32) -> bool
 fn is_small_refused(op: u32, a: F32) -> bool
     ensures { result ≡ (refuses_small op && is_small binary32 a.0) }
 {
-    ((op == number::SQRT) | refuses_zero(op)) & is_small(a)
+    ((op == number::SQRT) | refuses_zero(op)) & a.is_small()
 }
 
 fn is_sign_refused(op: u32, a: F32) -> bool
     ensures { result ≡ (refuses_sign op && is_below_zero binary32 a.0) }
 {
-    refuses_sign(op) & is_below_zero(a)
+    refuses_sign(op) & a.is_below_zero()
 }
 
 fn refuses_sign(op: u32) -> bool
@@ -140,7 +117,7 @@ fn is_power_refused(op: u32, n: u32) -> bool
     ensures { result ≡ (among (op_powi ∷ []) op && is_past_power n) }
 {
     if op == number::POWI {
-        return wrap::sum(n, POWERS) > 2 * POWERS;
+        return n.wrapping_add(POWERS) > 2 * POWERS;
     }
     false
 }

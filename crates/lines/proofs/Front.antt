@@ -9,11 +9,9 @@ use borrow.Author.Tests.{eqb-true, eqb-false, ltb-true, ltb-false, eq-eqb, ne_eq
 use lib.Dec.{eqb, ltb}
 use lib.ListN.{length, get_or, take, drop}
 use lib.Seq.{take_at, drop_at}
-use Rattle.frame.specs.Frame.{answer_bytes}
-use Rattle.frame.proofs.Answers.{answer_length}
-use Rattle.lines.specs.declared.Lines.{Lines}
-use Rattle.lines.specs.declared.Fed.{Fed}
+use Rattle.lines.specs.declared.Held.{Held}
 use Rattle.lines.specs.Lines.{newline, completed}
+use Rattle.lines.specs.Answering.{Answering}
 use Rattle.lines.specs.Held.{line_of, after, front, answers_from, Feeds}
 use Rattle.lines.proofs.Meaning.{length_answers}
 
@@ -97,27 +95,27 @@ stops p room c = stopping p (reads room c)
 
 -- ---- of a call
 
-module _ (s : Lines) (chunk space : List ℕ) (r : Fed) (space' : List ℕ) (f : Feeds s chunk space r space') where
-  pub read_within : r.read ≤ length chunk
-  read_within = omega (arith, f.read, no_further (length space) chunk)
+module _ (f : List ℕ → List ℕ) {n : ℕ} (s : Held n) (chunk space : List ℕ) (t : Held n) (read written : ℕ) (space' : List ℕ) (fs : Feeds f s chunk space t read written space') where
+  pub read_within : read ≤ length chunk
+  read_within = omega (arith, fs.read_is, no_further (length space) chunk)
 
-  pub written_within : r.written ≤ length space
-  written_within =
-      omega (arith, f.written, length_answers answer_bytes 11 answer_length (completed (line_of s) (front (length space) chunk)), fits (line_of s) (length space) chunk)
+  pub written_within : Answering n f → written ≤ length space
+  written_within a =
+      omega (arith, fs.written_is, length_answers f 11 a.each (completed (line_of s) (front (length space) chunk)), fits (line_of s) (length space) chunk)
 
-  part : front (length space) chunk ≡ take r.read chunk
-  part = begins (length space) chunk ∙ ap (λ (n : ℕ). take n chunk) (sym f.read)
+  pub part : front (length space) chunk ≡ take read chunk
+  part = begins (length space) chunk ∙ ap (λ (n : ℕ). take n chunk) (sym fs.read_is)
 
   -- what is answered and what is held are those of the bytes read, and the rest of the space is as it was
-  pub answers_part : take r.written space' ≡ answers_from s (take r.read chunk)
+  pub answers_part : take written space' ≡ answers_from f s (take read chunk)
   answers_part =
-      ap (take r.written) f.bytes
-      ∙ take_at (answers_from s (front (length space) chunk)) (drop r.written space) r.written (sym f.written)
-      ∙ ap (answers_from s) part
+      ap (take written) fs.bytes
+      ∙ take_at (answers_from f s (front (length space) chunk)) (drop written space) written (sym fs.written_is)
+      ∙ ap (answers_from f s) part
 
-  pub holds_part : r.lines ≡ after s (take r.read chunk)
-  holds_part = f.lines ∙ ap (after s) part
+  pub holds_part : t ≡ after s (take read chunk)
+  holds_part = fs.lines ∙ ap (after s) part
 
-  pub keeps_rest : drop r.written space' ≡ drop r.written space
+  pub keeps_rest : drop written space' ≡ drop written space
   keeps_rest =
-      ap (drop r.written) f.bytes ∙ drop_at (answers_from s (front (length space) chunk)) (drop r.written space) r.written (sym f.written)
+      ap (drop written) fs.bytes ∙ drop_at (answers_from f s (front (length space) chunk)) (drop written space) written (sym fs.written_is)

@@ -16,6 +16,7 @@ ghost use Rattle.probe.specs.Constants.{constants};
 
 use float::F32;
 use float::cos::TURN;
+use format::Number;
 
 pub mod studio;
 
@@ -32,8 +33,7 @@ pub extern "C" fn probe_cast_marked(a: u32) -> u64
     ensures { result ≡ number_of (mark_of a) * 2 ^ 32 + of_z w32 (to_signed 31 (of_bits binary32 a)) }
 {
     let casted = F32(a).cast_marked();
-    let mark = casted.mark;
-    mark.number() as u64 * 0x1_0000_0000 + float::cast::bits_of_i32(casted.value) as u64
+    u32::from(casted.mark) as u64 * 0x1_0000_0000 + casted.value.cast_unsigned() as u64
 }
 
 #[unsafe(no_mangle)]
@@ -134,8 +134,5 @@ pub extern "C" fn probe_constant(place: u32) -> u32
         F32::MANTISSA_BITS,
         F32::of(TURN).0,
     ];
-    if place < 18 {
-        return all[place as usize];
-    }
-    0
+    all.get(place as usize).copied().unwrap_or(0)
 }

@@ -5,6 +5,7 @@ ghost use Rattle.viewer.specs.View.{viewed};
 ghost use Rattle.probe.specs.Constants.{double_constants};
 
 use double::F64;
+use format::Number;
 
 // The constants of the number type, by their places in the definition's list, and 0 past its end.
 #[unsafe(no_mangle)]
@@ -24,10 +25,7 @@ pub extern "C" fn probe_double_constant(place: u32) -> u64
         F64::EXPONENT_BIAS,
         F64::MANTISSA_BITS,
     ];
-    if place < 11 {
-        return all[place as usize];
-    }
-    0
+    all.get(place as usize).copied().unwrap_or(0)
 }
 
 // The word at a place of the part that is lent, and 0 past its end.
@@ -43,8 +41,5 @@ pub extern "C" fn probe_columns<'a>(
     ensures { result ≡ get_or (viewed scan.now retouch.now retouched from to) place 0 }
 {
     let part = viewer::columns(scan, retouch, retouched, from, to);
-    if place < part.len() {
-        return part[place];
-    }
-    0
+    part.get(place).copied().unwrap_or(0)
 }

@@ -18,7 +18,9 @@ use Rattle.float.specs.Acos.{acos_word}
 use Rattle.float.specs.Tan.{tan_word}
 use Rattle.float.specs.RemEuclid.{rem_euclid_word}
 use Rattle.float.specs.DivEuclid.{div_euclid_word}
+use Rattle.raw.specs.declared.kernel.Kernel.TheVariants.{Trunc, Fract, Floor, Ceil, Round, Abs, Copysign, Signum, Sqrt, Invsqrt, Inv, Recip, Exp, Ln, Powi, Powf, Atan, Atan2, Cos, Sin, Hypot, Asin, Acos, Tan, RemEuclid, DivEuclid}
 use Rattle.raw.specs.Raw.{kernel_of, operands_of, raw_of}
+use Rattle.raw.specs.Numbers.{number_of}
 
 pub record Case : Type 0 where
   pub number : ℕ
@@ -68,3 +70,10 @@ numbered = refl
 pub answered : map (λ c. raw_of (kernel_of c.number) c.first c.second) cases ≡ map (λ c. c.answer) cases
 unfolding written correction recip_word series power_word exp_word polynomial logarithm ln_word works powi_word powf_word atan_norm_word atan_word quarters atan2_word cos_word sin_word hypot_word asin_word acos_word tan_word rem_euclid_word div_euclid_word add sub mul div rem lt le eq nan_bits of_bits to_bits of_int to_signed
 answered = refl
+
+-- ---- each name has its number
+
+pub named :
+    map number_of (Trunc ∷ Fract ∷ Floor ∷ Ceil ∷ Round ∷ Abs ∷ Copysign ∷ Signum ∷ Sqrt ∷ Invsqrt ∷ Inv ∷ Recip ∷ Exp ∷ Ln ∷ Powi ∷ Powf ∷ Atan ∷ Atan2 ∷ Cos ∷ Sin ∷ Hypot ∷ Asin ∷ Acos ∷ Tan ∷ RemEuclid ∷ DivEuclid ∷ [])
+    ≡ 1 ∷ 2 ∷ 3 ∷ 4 ∷ 5 ∷ 6 ∷ 7 ∷ 8 ∷ 9 ∷ 10 ∷ 11 ∷ 12 ∷ 13 ∷ 14 ∷ 15 ∷ 16 ∷ 17 ∷ 18 ∷ 19 ∷ 20 ∷ 21 ∷ 22 ∷ 23 ∷ 24 ∷ 25 ∷ 26 ∷ []
+named = refl

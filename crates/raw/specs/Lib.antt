@@ -1,2 +1,3 @@
 -- Which kernel stands under which number.
 pub mod Raw
+pub mod Numbers

@@ -1,49 +1,38 @@
--- An entry by what stands at its front, and by its first bytes. Assumes nothing.
+-- An entry by what stands at its front. Of an entry the first 250 bytes are enough: eight digits, a blank, and one byte more than a
+-- recipe has. Assumes nothing.
 use Prim.Native.Nat.{ℕ, zero, suc, ◌+◌, ◌≤◌, ◌<◌}
 use native.Mathlib.Nat.{le_of_suc-le-suc}
 use native.Mathlib.Omega.{arith}
 use mathlib.Core.Path.{◌≡◌, refl, sym, ap, subst, ◌∙◌}
-use mathlib.Core.Bool.{Bool, true, false, ◌&&◌, false≢true}
+use mathlib.Core.Bool.{Bool, true, ◌&&◌, false≢true}
 use mathlib.Core.Logic.{◌⊎◌, inl, inr}
 use mathlib.Core.List.{List, [], ◌∷◌}
 use lib.Dec.{eqb}
 use lib.ListN.{length, take, drop, length-take, length-drop}
-use lib.Seq.{take_all}
+use lib.Seq.{take_all, drop-drop}
 use lib.Ieee.{Float, binary32, of_bits}
 use Rattle.format.proofs.Order.{either}
-use Rattle.guard.specs.declared.Answer.{Answer}
-use Rattle.guard.specs.Guarded.{refusal_given, word_of}
-use Rattle.frame.specs.Frame.{is_digit, number_at}
+use Rattle.refusals.specs.Given.{refusal_given}
+use Rattle.guard.specs.Guarded.{Answer, word_of}
+use Rattle.frame.specs.Frame.{is_digit, number_after, number_at}
 use Rattle.frame.specs.Words.{packed}
 use Rattle.recipe.specs.Text.{bytes}
 use Rattle.recipe.specs.Begins.{digits, begins}
 use Rattle.recipe.specs.Answers.{Answers, AnswersWords}
 use Rattle.recipe.specs.Entry.{is_entry, AnswersEntry}
-use Rattle.recipe.proofs.Fronts.{begun}
+use Rattle.recipe.proofs.Fronts.{first_is, begins_is}
 use Rattle.recipe.proofs.Answers.{too_long}
 
-module _ (line : List ℕ) (w : ℕ) where
-  malformed : is_entry line ≡ false → w ≡ packed 7 0 → AnswersEntry line w
-  malformed e q = record { malformed = λ h. q; worked = λ h. absurd (false≢true (sym e ∙ h)) }
+-- ---- an entry by what stands at its front
 
-  pub no_number : digits 8 line ≡ false → w ≡ packed 7 0 → AnswersEntry line w
-  no_number e = malformed (rw e)
+pub an_entry : (line rest recipe : List ℕ) → digits 8 line ≡ true → rest ≡ drop 8 line → first_is (bytes " ") rest ≡ true → recipe ≡ drop 1 rest
+    → (x : ℕ) → x ≡ number_after 0 (take 8 line) → (r : Answer) → Answers recipe (of_bits binary32 x) r → (w : ℕ) → w ≡ packed (refusal_given r) (word_of r) → AnswersEntry line w
+an_entry line rest recipe d q b p x n r a w e =
+    let is : is_entry line ≡ true = rw (d, sym q, sym (begins_is (bytes " ") rest) ∙ b) in
+    let from : recipe ≡ drop 9 line = p ∙ ap (drop 1) q ∙ drop-drop 1 8 line in
+    record { malformed = λ h. absurd (false≢true (sym h ∙ is)); worked = λ h. record { answer = r; answers = rw (sym from, sym n) a; words = e } }
 
-  pub no_blank : digits 8 line ≡ true → begins (bytes " ") (drop 8 line) ≡ false → w ≡ packed 7 0 → AnswersEntry line w
-  no_blank d e = malformed (rw (d, e))
-
-  pub an_entry : digits 8 line ≡ true → begins (bytes " ") (drop 8 line) ≡ true → (recipe : List ℕ) → recipe ≡ drop 9 line → (x : ℕ) → x ≡ number_at 0 8 line → (r : Answer) → Answers recipe (of_bits binary32 x) r → w ≡ packed (refusal_given r) (word_of r)
-      → AnswersEntry line w
-  an_entry d e recipe p x n r a q =
-      record {
-        malformed = λ h. absurd (false≢true (sym h ∙ rw (d, e)));
-        worked = λ h. record { answer = r; answers = rw (sym p, sym n) a; words = q };
-      }
-
-pub room : (line : List ℕ) → begins (bytes " ") (drop 8 line) ≡ true → 9 ≤ length line
-room line e = omega (arith, simp length-drop at (ap length (begun (bytes " ") (drop 8 line) e)))
-
--- ---- of an entry the first 250 bytes are enough: eight digits, a blank, and one byte more than a recipe has
+-- ---- the first 250 bytes of an entry
 
 digits_first : (k n : ℕ) (l : List ℕ) → k ≤ n → digits k (take n l) ≡ digits k l
 digits_first zero n l h = refl

@@ -2,17 +2,17 @@
 -- grammar is known by its number. Assumes nothing.
 use Prim.Native.Nat.{ℕ, zero, suc, ◌≤◌, ◌<◌}
 use native.Mathlib.Omega.{arith}
-use mathlib.Core.Path.{◌≡◌, refl, sym, ap, subst, ◌∙◌}
+use mathlib.Core.Path.{◌≡◌, sym, ap, subst, ◌∙◌}
 use mathlib.Core.Bool.{Bool, true, false, cond}
 use mathlib.Core.List.{List}
 use lib.Dec.{T, eqb, ltb, ltb→lt}
 use lib.ListN.{length}
 use lib.Ieee.{Float, binary32, to_bits}
 use Rattle.raw.specs.Raw.{kernel_of, operands_of}
-use Rattle.guard.specs.declared.Answer.{Answer}
-use Rattle.guard.specs.declared.Guarded.TheVariants.{Number}
 use Rattle.guard.specs.Refusals.{refusal_of}
-use Rattle.guard.specs.Guarded.{refusal_given, given}
+use Rattle.refusals.specs.Given.{refusal_given}
+use Rattle.refusals.proofs.Given.{number_given}
+use Rattle.guard.specs.Guarded.{Answer}
 use Rattle.guard.proofs.Numbers.{given_passes}
 use Rattle.recipe.specs.Grammar.{Sum, one, plus, minus, Product, single, times, over, Factor, number, letter, group, operation, sooner_of, kernel_refusal, refusal_sum, refusal_product, refusal_factor, value_sum, Reading, depth_of}
 use Rattle.recipe.specs.Answers.{Answers}
@@ -67,10 +67,6 @@ pub data Why (line : List ℕ) : ℕ → Type 0 where
   too_deep : length line ≤ 240 → 16 < depth_of line → Why line 14
   no_recipe : length line ≤ 240 → depth_of line ≤ 16 → ((t : Sum) → Reading line t → ⊥) → Why line 15
 
-given_refusal : (n : ℕ) (v : Float) → refusal_given (given n (Number v)) ≡ n
-given_refusal zero v = refl
-given_refusal (suc n) v = refl
-
 pub why : (line : List ℕ) (x : Float) (r : Answer) → Answers line x r → 13 ≤ refusal_given r → Why line (refusal_given r)
 why line x r a n = go (standing line)
   where
@@ -82,6 +78,6 @@ why line x r a n = go (standing line)
     go (deep h k) = as_told 14 (ap refusal_given (a.deep h k)) (too_deep h k)
     go (outside h k o) = as_told 15 (ap refusal_given (a.outside h k o)) (no_recipe h k o)
     go (read h k t o) =
-        let e = ap refusal_given (a.read h k t o) ∙ given_refusal (refusal_sum x t) _ in
         let l = kernels_below x t in
+        let e = ap refusal_given (a.read h k t o) ∙ number_given (refusal_sum x t) _ (omega (arith, l)) in
         absurd (let z : ⊥ = omega arith in z)

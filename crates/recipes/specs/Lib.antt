@@ -1,3 +1,4 @@
--- What a line of a list of recipes is held as, and answered with.
+-- How an entry of a list of recipes is answered, and what is written of a list.
 pub mod Held
+pub mod Entries
 pub mod Written

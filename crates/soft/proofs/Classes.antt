@@ -88,3 +88,17 @@ not_zero f w p = ne_eqb (units f w) 0 (λ (e : units f w ≡ 0). lt_irrefl 0 (su
 -- an operation of two words by what they are
 pub operated : (f : Format) (op : Float → Float → Float) (a b : ℕ) (x y z : Float) → of_bits f a ≡ x → of_bits f b ≡ y → op x y ≡ z → to_bits f (op (of_bits f a) (of_bits f b)) ≡ to_bits f z
 operated f op a b x y z p q e = ap (to_bits f) (ap (λ (w : Float). op w (of_bits f b)) p ∙ ap (op x) q ∙ e)
+
+-- ---- as the code tests them
+
+pub infinite_so : (f : Format) (w : ℕ) → true ≡ eqb (magnitude f w) (inf_word f) → Infinite f w
+infinite_so f w e = eqb-true (magnitude f w) (inf_word f) (sym e)
+
+pub finite_so : (f : Format) (w : ℕ) → false ≡ nan_bits f w → false ≡ eqb (magnitude f w) (inf_word f) → Finite f w
+finite_so f w n e = finite_else f w (sym n) (eqb-false (magnitude f w) (inf_word f) (sym e))
+
+pub zero_so : (f : Format) (w : ℕ) → true ≡ eqb (magnitude f w) 0 → Zero f w
+zero_so f w e = eqb-true (magnitude f w) 0 (sym e)
+
+pub nonzero_so : (f : Format) (w : ℕ) → false ≡ nan_bits f w → false ≡ eqb (magnitude f w) 0 → NonZero f w
+nonzero_so f w n e = nonzero f w (eqb-false (magnitude f w) 0 (sym e)) (sym n)

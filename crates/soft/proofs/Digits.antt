@@ -2,9 +2,9 @@
 use Prim.Native.Nat.{ℕ, zero, suc, ◌+◌, ◌-◌, ◌*◌, ◌^◌, ◌≤◌, ◌<◌}
 use native.Mathlib.Nat.{mul-one}
 use native.Mathlib.Omega.{arith}
-use mathlib.Core.Path.{◌≡◌, sym, ap}
+use mathlib.Core.Path.{◌≡◌, sym}
 use mathlib.Core.Bool.{Bool, true, false, cond}
-use borrow.Author.Tests.{eq-eqb, ne_eqb}
+use borrow.Author.Tests.{ne_eqb}
 use lib.Dec.{eqb}
 use lib.Ieee.{Format, binary32, prec, hid}
 use Rattle.format.specs.Fields.{exponent, fraction}
@@ -12,10 +12,6 @@ use Rattle.format.specs.Value.{units_at, units}
 use Rattle.format.proofs.Fields.{fraction_lt, exponent_lt}
 use Rattle.format.proofs.PartsMeaning.{full}
 use Rattle.soft.specs.Digits.{digits_of, places_of}
-
-pub digits_low : (f : Format) (w : ℕ) → exponent f w ≡ 0 → digits_of f w ≡ fraction f w
-unfolding digits_of
-digits_low f w e = rw (eq-eqb (exponent f w) 0 e)
 
 pub digits_high : (f : Format) (w : ℕ) → (exponent f w ≡ 0 → ⊥) → digits_of f w ≡ hid f + fraction f w
 unfolding digits_of
@@ -50,10 +46,6 @@ digits_ge f w h = rw (digits_high f w (λ e. some (exponent f w) h e)) (omega ar
   where
     some : (x : ℕ) → 0 < x - 1 → x ≡ 0 → ⊥
     some x h e = omega arith
-
-pub places_field : (f : Format) (w x : ℕ) → x ≡ exponent f w → x - 1 ≡ places_of f w
-unfolding places_of
-places_field f w x e = ap (λ (z : ℕ). z - 1) e
 
 pub small_digits : (w r : ℕ) → r ≡ digits_of binary32 w → r < 16777216
 small_digits w r e = rw e (digits_lt binary32 w)

@@ -1,18 +1,17 @@
 -- Which of two words is the smaller number, by their signs and magnitudes; and the words of integers. Assumes nothing.
-use Prim.Native.Nat.{ℕ, zero, suc, ◌+◌, ◌-◌, ◌*◌, ◌^◌, ◌≤◌, ◌<◌}
+use Prim.Native.Nat.{ℕ, zero, suc, ◌+◌, ◌*◌, ◌^◌, ◌≤◌, ◌<◌}
 use native.Mathlib.Nat.{mul-one, mul-pos, le_of_lt, zero-mul}
 use native.Mathlib.Omega.{arith}
 use mathlib.Core.Path.{◌≡◌, refl, sym, ap, ◌∙◌}
 use mathlib.Core.Bool.{Bool, true, false, not, ◌&&◌, true≢false}
 use borrow.Author.Tests.{ltb-true, ltb-false, lt-ltb, le-ltb}
 use lib.Dec.{ltb, lit<}
-use lib.IntN.{ℤ, pos, negsuc}
+use lib.IntN.{ℤ, pos, negsuc, nat_abs}
+use lib.Signed.{lt_z}
 use lib.Pow.{pow_pos, pow-add}
 use lib.Ieee.{Format, Float, nan, inf, fin, binary32, low, lt, below, round, of_int, nan_bits, of_bits, to_bits}
 use lib.Ieee.Exact.{HasValue}
 use lib.Ieee.Scale.{round_same}
-use mir.Syntax.{w32}
-use mir.Val.{SFits, of_z}
 use Rattle.format.specs.Fields.{negative, magnitude, inf_word}
 use Rattle.format.specs.Value.{units}
 use Rattle.format.proofs.AtLeastZero.{inf_pos}
@@ -127,22 +126,17 @@ pub whole_word : (s : Bool) (n : ℕ) → scaled_word binary32 s n 449 ≡ to_bi
 unfolding scaled_word nearest_word
 whole_word s n = ap (to_bits binary32) (round_same binary32 s (n * 2 ^ 449) (2 ^ 300 * 2 ^ 149) n 1 (mul-pos (pow_pos 300) (pow_pos 149)) (lit< tt) (mul-one (n * 2 ^ 449) ∙ ap (λ (z : ℕ). n * z) (pow-add 2 300 149)))
 
-pub integer_plus : (z : ℤ) (b : ℕ) → SFits w32 z → b ≡ of_z w32 z → b < 2 ^ 31 → scaled_word binary32 false b 449 ≡ to_bits binary32 (of_int binary32 z)
+pub integer_word : (z : ℤ) (s : Bool) (b : ℕ) → s ≡ lt_z z (pos 0) → b ≡ nat_abs z → scaled_word binary32 s b 449 ≡ to_bits binary32 (of_int binary32 z)
 unfolding of_int
-integer_plus (pos n) b f e l = rw e (whole_word false n)
-integer_plus (negsuc n) b f e l = absurd (let z : ⊥ = omega (arith, e, l, f.sfits) in z)
-
-pub integer_minus : (z : ℤ) (b : ℕ) → SFits w32 z → b ≡ of_z w32 z → 2 ^ 31 ≤ b → scaled_word binary32 true (2 ^ 32 - b) 449 ≡ to_bits binary32 (of_int binary32 z)
-unfolding of_int
-integer_minus (pos n) b f e l = absurd (let z : ⊥ = omega (arith, e, l, f.sfits) in z)
-integer_minus (negsuc n) b f e l = ap (λ (m : ℕ). scaled_word binary32 true m 449) (let z : 2 ^ 32 - b ≡ suc n = omega (arith, e, f.sfits) in z) ∙ whole_word true (suc n)
+integer_word (pos n) s b d e = rw (d, e) (ap (λ (t : Bool). scaled_word binary32 t n 449) (le-ltb n 0 (omega arith)) ∙ whole_word false n)
+integer_word (negsuc n) s b d e = rw (d, e) (whole_word true (suc n))
 
 -- as the code tests them
-pub less_by : (a b x y : ℕ) (s t : Bool) → nan_bits binary32 a ≡ false → nan_bits binary32 b ≡ false → x ≡ magnitude binary32 a → y ≡ magnitude binary32 b → negative binary32 a ≡ s → negative binary32 b ≡ t
+pub less_by : (a b x y : ℕ) (s t : Bool) → false ≡ nan_bits binary32 a → false ≡ nan_bits binary32 b → x ≡ magnitude binary32 a → y ≡ magnitude binary32 b → s ≡ negative binary32 a → t ≡ negative binary32 b
     → below s x t y ≡ lt (of_bits binary32 a) (of_bits binary32 b)
 less_by a b x y s t n m p q u v =
     ap (λ (z : ℕ). below s z t y) p
     ∙ ap (below s (magnitude binary32 a) t) q
-    ∙ ap (λ (z : Bool). below z (magnitude binary32 a) t (magnitude binary32 b)) (sym u)
-    ∙ ap (λ (z : Bool). below (negative binary32 a) (magnitude binary32 a) z (magnitude binary32 b)) (sym v)
-    ∙ sym (less_is binary32 a b n m)
+    ∙ ap (λ (z : Bool). below z (magnitude binary32 a) t (magnitude binary32 b)) u
+    ∙ ap (λ (z : Bool). below (negative binary32 a) (magnitude binary32 a) z (magnitude binary32 b)) v
+    ∙ sym (less_is binary32 a b (sym n) (sym m))

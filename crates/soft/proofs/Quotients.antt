@@ -67,8 +67,11 @@ module _ (a b x y p q : ℕ) (hx : x ≡ digits_of binary32 a) (hy : y ≡ digit
             ∙ ap (λ (z : ℕ). x * z) (pow-add 2 (free_of x - 32) 32)
             ∙ sym (mul_assoc x (2 ^ (free_of x - 32)) (2 ^ 32))
 
-    pub whole_lt : w < 2 ^ 62
+    whole_lt : w < 2 ^ 62
     whole_lt = lt_of_le_of_lt (div-le_self (full_of x) y) lead.high
+
+    pub whole_small : (v : ℕ) → v ≡ full_of x / 2 ^ 32 * 2 ^ 32 / y → v < 2 ^ 62
+    whole_small v e = rw (divided_is v e) whole_lt
 
     abbrev at : ℕ
     at = p + 448 - free_of x - q

@@ -3,7 +3,7 @@ use Prim.Native.Nat.{ℕ, suc, ◌+◌, ◌-◌, ◌*◌, ◌%◌, ◌^◌, ◌�
 use native.Mathlib.Nat.{eq-or-lt_of_le, one-mul, pow-succ', mul-lt-mul_of_pos_left, le_trans, le_of_eq, lt_of_lt_of_le, mul_assoc, mul-one, mul-le-mul_right, le_of_mul-le-mul_right, mod-eq_of_lt, add-mul, sub-zero}
 use native.Mathlib.Omega.{arith}
 use mathlib.Core.Path.{◌≡◌, sym, ap, subst, ◌∙◌}
-use mathlib.Core.Bool.{Bool}
+use mathlib.Core.Bool.{Bool, true, false, cond}
 use lib.Dec.{lit<, lit≤}
 use lib.Pow.{pow_pos, pow-add, pow_mono, shl_lt}
 use lib.Ieee.{binary32, hid}
@@ -169,3 +169,7 @@ module _ (a b x y p q : ℕ) (hx : x ≡ digits_of binary32 a) (hy : y ≡ digit
             (word_of (A - B) (23 + p) (p - 1) (2 * x) (rw full (omega (arith, o, pow_pos (23 + p)))) (rw full (omega (arith, half, small))) (let z : 23 + p - 24 ≡ p - 1 = omega arith in z)
             (rw h (near_down (2 * x) (2 ^ (p - 1)) B t (omega (arith, h, full, half, small))))
             ∙ word)
+
+    pub far_all : (less : Bool) (s : Bool) → nearest_word binary32 s A 1 ≡ nearest_word binary32 s (cond less (A - B) (A + B)) 1
+    far_all true s = far_part s
+    far_all false s = far_sum s

@@ -7,6 +7,7 @@ ghost use Rattle.soft.specs.Words.{soft};
 
 use crate::{add, div, mul};
 use float::F32;
+use format::Number;
 
 // 0.596227, by which the curve bends.
 const BEND: u32 = 0x3f18_a255;
@@ -26,7 +27,8 @@ pub fn atan_norm(w: u32) -> u32
     let n = add::add(bent, mul::mul(w, w));
     let quotient = div::div(n, add::add(add::add(F32::ONE.0, bent), n));
     if F32(quotient).is_nan() {
-        return F32::NAN.0;
+        F32::NAN.0
+    } else {
+        (w & F32::SIGN_MASK) | quotient
     }
-    (w & F32::SIGN_MASK) | quotient
 }

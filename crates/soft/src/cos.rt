@@ -6,6 +6,7 @@ ghost use Rattle.soft.specs.Words.{soft};
 
 use crate::{add, floor, mul};
 use float::F32;
+use format::Number;
 
 // Half of 1/PI: one turn is 2 PI.
 const TURN: u32 = 0x3e22_f983;

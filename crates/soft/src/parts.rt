@@ -1,53 +1,73 @@
 // What a word is made of.
-ghost use Rattle.std.specs.Prelude.{◌≡◌, eqb};
+ghost use Rattle.std.specs.Prelude.{◌≡◌, ◌^◌, ◌<◌, eqb};
 ghost use Rattle.std.specs.Float.{binary32};
 ghost use Rattle.std.specs.Float.Ieee.{unlike};
 ghost use Rattle.format.specs.Fields.{negative, magnitude, sign_bit, inf_word};
+ghost use Rattle.format.specs.Value.{Finite};
 ghost use Rattle.soft.specs.Digits.{digits_of, places_of};
 ghost use Rattle.soft.specs.Rounding.{infinity};
 
 use float::F32;
+use format::Number;
 
-// The digits of a finite word, the leading one with them where the exponent field is not 0.
-pub(crate) fn digits(w: u32) -> u64
-    ensures { result ≡ digits_of binary32 w }
-{
-    let fraction = w & F32::MANTISSA_MASK;
-    if F32(w).extract_exponent_bits() == 0 {
-        return fraction as u64;
-    }
-    fraction as u64 + 0x80_0000
+// A word that is neither an infinity nor a NaN: what is added, multiplied and divided by its digits.
+#[derive(Clone, Copy)]
+pub(crate) struct FiniteWord {
+    pub(crate) word: u32,
+    ghost finite: { Finite binary32 word },
 }
 
-// By how many places they are moved up.
-pub(crate) fn places(w: u32) -> u32
-    ensures { result ≡ places_of binary32 w }
-{
-    let field = F32(w).extract_exponent_bits();
-    if field == 0 {
-        return 0;
+impl FiniteWord {
+    // Its digits, the leading one with them where the exponent field is not 0.
+    #[tactic(auto, using(format::proofs::Masks::only_fraction), unfolding(crate::specs::Digits::digits_of))]
+    pub(crate) fn digits(self) -> u64
+        ensures value { result ≡ digits_of binary32 self.word }
+        ensures few { result < 2 ^ 24 }
+    {
+        let fraction = self.word & F32::MANTISSA_MASK;
+        let digits = if F32(self.word).extract_exponent_bits() == 0 {
+            fraction
+        } else {
+            fraction + 0x80_0000
+        };
+        digits as u64
     }
-    field - 1
+
+    // By how many places they are moved up.
+    #[tactic(auto, using(format::proofs::Fields::exponent_lt), unfolding(crate::specs::Digits::places_of))]
+    pub(crate) fn places(self) -> u32
+        ensures value { result ≡ places_of binary32 self.word }
+        ensures few { result < 254 }
+    {
+        F32(self.word).extract_exponent_bits().saturating_sub(1)
+    }
+
+    pub(crate) fn is_negative(self) -> bool
+        ensures { result ≡ negative binary32 self.word }
+    {
+        F32(self.word).is_sign_negative()
+    }
+
+    // The word without its sign, by which sizes are compared.
+    pub(crate) fn size(self) -> u32
+        ensures { result ≡ magnitude binary32 self.word }
+    {
+        F32(self.word).without_sign().0
+    }
 }
 
 // A sign as the bit that it sets.
 pub(crate) fn sign_bit(sign: bool) -> u32
     ensures { result ≡ sign_bit binary32 sign }
 {
-    if sign {
-        return F32::SIGN_MASK;
-    }
-    0
+    if sign { F32::SIGN_MASK } else { 0 }
 }
 
 // Whether just one of two words is negative.
 pub(crate) fn signs_differ(a: u32, b: u32) -> bool
     ensures { result ≡ unlike (negative binary32 a) (negative binary32 b) }
 {
-    if F32(a).is_sign_negative() {
-        return F32(b).is_sign_positive();
-    }
-    F32(b).is_sign_negative()
+    F32(a).is_sign_negative() != F32(b).is_sign_negative()
 }
 
 pub(crate) fn is_infinite(w: u32) -> bool
@@ -65,8 +85,5 @@ pub(crate) fn is_zero(w: u32) -> bool
 pub(crate) fn infinity(sign: bool) -> u32
     ensures { result ≡ infinity binary32 sign }
 {
-    if sign {
-        return F32::SIGN_MASK + F32::EXPONENT_MASK;
-    }
-    F32::EXPONENT_MASK
+    sign_bit(sign) + F32::EXPONENT_MASK
 }

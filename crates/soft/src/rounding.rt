@@ -6,6 +6,7 @@ ghost use Rattle.soft.specs.Digits.{scaled_word};
 
 use crate::parts;
 use float::F32;
+use format::Number;
 
 // The place of one unit, which is the smallest number there is: so high that no place of a product or a
 // quotient is below 62.
@@ -17,7 +18,8 @@ const SMALL: u32 = UNIT - 39;
 
 // x over 2^count, to the nearest whole number, and on a tie to the even one.
 pub(crate) fn nearest(x: u64, count: u32) -> u64
-    requires { (0 < count) × (count < 64) }
+    requires some { 0 < count }
+    requires few { count < 64 }
     ensures { result ≡ closest x (2 ^ count) }
 {
     let whole = x >> count;
@@ -35,7 +37,9 @@ pub(crate) fn nearest(x: u64, count: u32) -> u64
 
 // m * 2^at units over 2^UNIT, to the nearest word; from half a step above the largest on, an infinity.
 pub(crate) fn rounded(sign: bool, m: u64, at: u32) -> u32
-    requires { (m < 2 ^ 63) × (62 ≤ at) × (at < 1000) }
+    requires few { m < 2 ^ 63 }
+    requires low { 62 ≤ at }
+    requires high { at < 1000 }
     ensures { result ≡ scaled_word binary32 sign m at }
 {
     let bit = parts::sign_bit(sign);

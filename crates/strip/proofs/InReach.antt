@@ -114,6 +114,12 @@ pub record Answered (op a b w : ℕ) : Type 0 where
   pub number : refusal_at op a b ≡ 0
   pub word : word_at op a b ≡ w
 
+-- an operation that has blocks is one
+known_block : (op : ℕ) → has_blocks op ≡ true → operands_in op ≡ 0 → ⊥
+known_block op h =
+    listed (λ n. operands_in n ≡ 0 → ⊥) op blocked h
+    (suc-ne-zero 0, (suc-ne-zero 0, (suc-ne-zero 0, (suc-ne-zero 0, (suc-ne-zero 0, (suc-ne-zero 0, (suc-ne-zero 0, (suc-ne-zero 1, (suc-ne-zero 1, (suc-ne-zero 0, (suc-ne-zero 0, (suc-ne-zero 0, (suc-ne-zero 0, (suc-ne-zero 1, (suc-ne-zero 1, tt)))))))))))))))
+
 module _ (a b : ℕ) (k : a < 2 ^ 32) (l : b < 2 ^ 32) where
   guarded : (op : ℕ) → (operands_in op ≡ 0 → ⊥) → op < 0x80 → refusal_of op a b ≡ 0 → Answered op a b (value_of op a b)
   guarded op o g z = let p = answered_place op a b o k l g z in record { number = p.0; word = p.1 }
@@ -140,6 +146,10 @@ module _ (a b : ℕ) (k : a < 2 ^ 32) (l : b < 2 ^ 32) where
 
   pub raw_hypot : Answered 0x95 a b (hypot_word a b)
   raw_hypot = raw 0x95 (suc-ne-zero 1) (lit≤ tt)
+
+  -- and none of them refuses anything
+  pub raw_number : (op : ℕ) → has_blocks op ≡ true → 0x80 ≤ op → refusal_at op a b ≡ 0
+  raw_number op h g = (raw op (known_block op h) g).number
 
   -- ---- the guarded ones: the refusal at a place, and the word where there is none
 
@@ -337,19 +347,17 @@ module _ (a b : ℕ) (k : a < 2 ^ 32) (l : b < 2 ^ 32) where
   pub beside_refusal : (op n w : ℕ) → has_blocks op ≡ true → n ≡ refusal_at op a b → (has_blocks op ≡ true → refusal_at op a b ≡ 0 → w ≡ word_at op a b) → cond (eqb n 0) w 0 ≡ word_at op a b
   beside_refusal op n w h e f = go (eqb n 0) refl
     where
-      known : operands_in op ≡ 0 → ⊥
-      known =
-          listed (λ n. operands_in n ≡ 0 → ⊥) op blocked h
-          (suc-ne-zero 0, (suc-ne-zero 0, (suc-ne-zero 0, (suc-ne-zero 0, (suc-ne-zero 0, (suc-ne-zero 0, (suc-ne-zero 0, (suc-ne-zero 1, (suc-ne-zero 1, (suc-ne-zero 0, (suc-ne-zero 0, (suc-ne-zero 0, (suc-ne-zero 0, (suc-ne-zero 1, (suc-ne-zero 1, tt)))))))))))))))
-
       go : (t : Bool) → eqb n 0 ≡ t → cond t w 0 ≡ word_at op a b
       go true d = f h (sym e ∙ eqb-true n 0 d)
-      go false d = sym (refused_is_zero op a b known k l (λ z. eqb-false n 0 d (e ∙ z)))
+      go false d = sym (refused_is_zero op a b (known_block op h) k l (λ z. eqb-false n 0 d (e ∙ z)))
+
+-- the refusal of each operation
+pub ruleset numbers = (abs_number_at, invsqrt_number_at, inv_number_at, root_number_at, atan_number_at, angle_number_at, cos_number_at, sin_number_at, hypot_number_at, raw_number)
+
+-- the word of each, where there is no refusal
+pub ruleset words = (abs_answered, root_answered, invsqrt_answered, inv_answered, atan_answered, angle_taken, cos_taken, sin_taken, hypot_taken, raw_root, raw_atan, raw_angle, raw_cos, raw_sin, raw_hypot)
 
 -- ---- the steps on the word itself, whatever the second word is
-
-pub bits_have_blocks : (op : ℕ) → on_bits op ≡ true → has_blocks op ≡ true
-bits_have_blocks op r = listed (λ n. has_blocks n ≡ true) op stepped r (refl, (refl, (refl, (refl, (refl, tt)))))
 
 pub bits_answered : (op a b : ℕ) → a < 2 ^ 32 → on_bits op ≡ true → reach op a b ≡ true → Answered op a b (bits_word op a)
 bits_answered op a b k r h = alike op r (listed (λ n. reach n a 0 ≡ true → Answered n a 0 (bits_word n a)) op stepped r (absolute, (positive, (unsigned, (inverse, (inverted, tt))))) (same_reach op r h))

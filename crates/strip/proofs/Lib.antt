@@ -1,6 +1,7 @@
 -- What belongs to no one function.
 mod Places
 mod Sofar
+mod Filled
 mod Marks
 mod Numbers
 mod Near

@@ -26,12 +26,6 @@ module _ (op : ℕ) {first second answers₀ refusals₀ : List ℕ} (a : Agree 
     pub numbers_long : length refusals ≡ length first
     numbers_long = filled_length (refusal_at op) first second refusals₀ refusals i a.seconds a.numbers s.numbers s.within
 
-    pub word_place : i < length first → i < length answers
-    word_place h = rw words_long h
-
-    pub number_place : i < length first → i < length refusals
-    number_place h = rw numbers_long h
-
     pub next_filled : (w n : ℕ) → i < length first → w ≡ word_at op (get_or first i 0) (get_or second i 0) → n ≡ refusal_at op (get_or first i 0) (get_or second i 0)
         → Sofar op first second answers₀ refusals₀ (set answers i w) (set refusals i n) (i + 1)
     next_filled w n h d e =

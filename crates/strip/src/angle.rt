@@ -8,6 +8,7 @@ ghost use Rattle.strip.specs.Steps.{whole_turn, quadrant_word};
 
 use crate::choice;
 use float::{F32, atan, steps};
+use format::Number;
 
 // Within the gate, where no step meets a NaN.
 pub(crate) fn within_gate(y: u32, x: u32) -> u32

@@ -9,6 +9,7 @@ ghost use Rattle.strip.specs.Steps.{signed_word};
 
 use crate::choice;
 use float::{F32, atan, steps};
+use format::Number;
 
 // Within the gate, where no step meets a NaN.
 pub(crate) fn within_gate(w: u32) -> u32

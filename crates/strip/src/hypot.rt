@@ -6,6 +6,7 @@ ghost use Rattle.float.specs.Hypot.{hypot_word};
 
 use crate::choice;
 use float::F32;
+use format::Number;
 
 // Of two words that are no NaNs, as all within the gate.
 pub(crate) fn of_numbers(w: u32, v: u32) -> u32

@@ -13,9 +13,12 @@ ghost use Rattle.guard.specs.Refusals.{refusal_of};
 ghost use Rattle.strip.specs.Strip.{word_at, refusal_at};
 ghost use Rattle.strip.specs.Reach.{angle_reach, has_blocks, reach, on_bits, half_word, bits_word, size_number};
 
+use crate::op::{RAW_ATAN, RAW_ATAN2, RAW_COS, RAW_HYPOT, RAW_SIN, RAW_SQRT};
 use crate::{angle, atan, choice, cosine, hypot};
-use float::{F32, cos, wrap};
-use guard::refusal;
+use float::{F32, cos};
+use format::Number;
+use frame::words::RAW;
+use guard::number::{ABS, ATAN, ATAN2, COS, HYPOT, INV, INVSQRT, SIN, SQRT};
 
 // The word of the smallest normal number.
 const NORMAL: u32 = 0x0080_0000;
@@ -38,49 +41,46 @@ const RAW_COS_END: u32 = 0x4480_0000;
 
 // A word whose highest bit is clear only where the steps alone are the kernel's. Marks that are or-ed
 // tell the same of all their words.
-pub(crate) fn mark(op: u32, a: u32, b: u32) -> u32
-    ensures { result < 2 ^ 31 → reach op a b ≡ true }
+pub(crate) fn mark<const OP: u32>(a: u32, b: u32) -> u32
+    ensures { result < 2 ^ 31 → reach OP a b ≡ true }
 {
-    match op {
-        0x06 => size_mark(a, 0x7f7f_ffff),
-        0x09 => normal_mark(a),
-        0x89 => unsigned_mark(a),
-        0x0a => normal_mark(a),
-        0x0b => range_mark(a),
-        0x11 => size_mark(a, ATAN_END),
-        0x91 => size_mark(a, ATAN_END),
-        0x12 => angle_mark(a, b),
-        0x92 => angle_mark(a, b),
-        0x13 => size_mark(a, COS_END),
-        0x93 => size_mark(a, RAW_COS_END),
-        0x14 => size_mark(a, COS_END),
-        0x94 => size_mark(a, COS_END),
-        0x15 => angle_mark(a, b),
-        0x95 => numbers_mark(a, b),
+    match OP {
+        ABS => size_mark(a, 0x7f7f_ffff),
+        SQRT | INVSQRT => normal_mark(a),
+        RAW_SQRT => unsigned_mark(a),
+        INV => range_mark(a),
+        ATAN | RAW_ATAN => size_mark(a, ATAN_END),
+        ATAN2 | RAW_ATAN2 | HYPOT => angle_mark(a, b),
+        COS | SIN | RAW_SIN => size_mark(a, COS_END),
+        RAW_COS => size_mark(a, RAW_COS_END),
+        RAW_HYPOT => numbers_mark(a, b),
         _ => 0x8000_0000,
     }
 }
 
 // Of positive normal numbers.
+#[tactic(auto, using(crate::proofs::Marks::normal_told))]
 fn normal_mark(w: u32) -> u32
     ensures { result < 2 ^ 31 → (0x0080_0000 ≤ w) × (w < 0x7f80_0000) }
 {
-    let above = wrap::sum(w, 0xff80_0000);
-    above | wrap::sum(above, 0x0100_0000)
+    let above = w.wrapping_add(0xff80_0000);
+    above | above.wrapping_add(0x0100_0000)
 }
 
 // Of words without the sign that are no NaN.
+#[tactic(auto, using(crate::proofs::Marks::unsigned_told))]
 fn unsigned_mark(w: u32) -> u32
     ensures { result < 2 ^ 31 → w ≤ 0x7f80_0000 }
 {
-    w | wrap::sum(w, 0x007f_ffff)
+    w | w.wrapping_add(0x007f_ffff)
 }
 
 // Of magnitudes from that of the smallest normal number to 2^126.
+#[tactic(auto, using(crate::proofs::Marks::range_told))]
 fn range_mark(w: u32) -> u32
     ensures { result < 2 ^ 31 → (0x0080_0000 ≤ magnitude binary32 w) × (magnitude binary32 w ≤ 0x7e80_0000) }
 {
-    size_mark(w, INV_END) | wrap::sum(F32(w).without_sign().0, 0xff80_0000)
+    size_mark(w, INV_END) | F32(w).without_sign().0.wrapping_add(0xff80_0000)
 }
 
 // Of magnitudes up to a limit.
@@ -92,6 +92,7 @@ fn size_mark(w: u32, limit: u32) -> u32
 }
 
 // Of two magnitudes of which neither is above 2^62, and not both are below 2^-60.
+#[tactic(auto, using(crate::proofs::Marks::angle_told))]
 fn angle_mark(y: u32, x: u32) -> u32
     ensures { result < 2 ^ 31 → angle_reach y x ≡ true }
 {
@@ -112,35 +113,45 @@ fn numbers_mark(a: u32, b: u32) -> u32
 
 // ---- the steps alone
 
-// What the single call answers there, of a kernel that is no step on the word itself. It refuses nothing.
-pub(crate) fn word(op: u32, a: u32, b: u32) -> u32
-    requires { (reach op a b ≡ true) × (on_bits op ≡ false) }
-    ensures { (result ≡ word_at op a b) × (refusal_at op a b ≡ 0) }
+// A place in reach, of a kernel that is no step on the word itself: its word, and no refusal.
+pub(crate) fn step<const OP: u32>(a: u32, b: u32) -> (u32, u32)
+    requires { (reach OP a b ≡ true) × (on_bits OP ≡ false) }
+    ensures { (result.0 ≡ word_at OP a b) × (result.1 ≡ refusal_at OP a b) }
 {
-    match op {
-        0x11 => atan::within_gate(a),
-        0x91 => atan::within_gate(a),
-        0x12 => angle::within_gate(a, b),
-        0x92 => angle::within_gate(a, b),
-        0x13 => cosine::cos(a),
-        0x93 => cosine::cos(a),
-        0x14 => cosine::sin(a),
-        0x94 => cosine::sin(a),
-        0x15 => hypot::of_numbers(a, b),
-        0x95 => hypot::of_numbers(a, b),
+    (word::<OP>(a, b), 0)
+}
+
+// What the single call answers there. It refuses nothing.
+fn word<const OP: u32>(a: u32, b: u32) -> u32
+    requires { (reach OP a b ≡ true) × (on_bits OP ≡ false) }
+    ensures { (result ≡ word_at OP a b) × (refusal_at OP a b ≡ 0) }
+{
+    match OP {
+        ATAN | RAW_ATAN => atan::within_gate(a),
+        ATAN2 | RAW_ATAN2 => angle::within_gate(a, b),
+        COS | RAW_COS => cosine::cos(a),
+        SIN | RAW_SIN => cosine::sin(a),
+        HYPOT | RAW_HYPOT => hypot::of_numbers(a, b),
         _ => 0,
     }
 }
 
+// Whether the kernel is a step on the word itself.
+pub(crate) fn on_bits<const OP: u32>() -> bool
+    ensures { result ≡ on_bits OP }
+{
+    matches!(OP, ABS | SQRT | RAW_SQRT | INVSQRT | INV)
+}
+
 // The kernels that are a step on the word itself, which every word bears: abs, sqrt in reach, invsqrt and
 // inv. That w is a word is handed back for the loop that calls it.
-pub(crate) fn bits(op: u32, w: u32) -> u32
-    ensures { (result ≡ bits_word op w) × (w < 2 ^ 32) }
+pub(crate) fn bits<const OP: u32>(w: u32) -> u32
+    ensures { (result ≡ bits_word OP w) × (w < 2 ^ 32) }
 {
-    match op {
-        0x06 => F32(w).abs().0,
-        0x0a => F32(w).invsqrt().0,
-        0x0b => F32(w).inv().0,
+    match OP {
+        ABS => F32(w).abs().0,
+        INVSQRT => F32(w).invsqrt().0,
+        INV => F32(w).inv().0,
         _ => half(w),
     }
 }
@@ -149,37 +160,47 @@ pub(crate) fn bits(op: u32, w: u32) -> u32
 fn half(w: u32) -> u32
     ensures { result ≡ half_word w }
 {
-    wrap::sum(w, F32::ONE.0) >> 1
+    w.wrapping_add(F32::ONE.0) >> 1
 }
 
 // ---- any words
 
-// The refusal.
-pub(crate) fn number(op: u32, a: u32, b: u32) -> u32
-    requires { has_blocks op ≡ true }
-    ensures { result ≡ refusal_at op a b }
+// A place: its word and its refusal.
+#[tactic(auto, using(crate::proofs::InReach::beside_refusal))]
+pub(crate) fn place<const OP: u32>(a: u32, b: u32) -> (u32, u32)
+    requires { has_blocks OP ≡ true }
+    ensures { (result.0 ≡ word_at OP a b) × (result.1 ≡ refusal_at OP a b) }
 {
-    match op {
-        0x06 => size_number(a, 0x7fff_ffff),
-        0x09 => root_number(a),
-        0x89 => 0,
-        0x0a => invsqrt_number(a),
-        0x0b => inv_number(a),
-        0x11 => size_number(a, ATAN_END),
-        0x91 => 0,
-        0x12 => angle_number(a, b),
-        0x92 => 0,
-        0x13 => size_number(a, COS_END),
-        0x93 => 0,
-        0x14 => size_number(a, COS_END),
-        0x94 => 0,
-        0x15 => angle_number(a, b),
-        0x95 => 0,
+    let word = any::<OP>(a, b);
+    let number = number::<OP>(a, b);
+    (choice::either(number == 0, word, 0), number)
+}
+
+// The refusal, of which a raw one has none. It is chosen without a branch, so that a loop over it is compiled to
+// vector code: a number, as the list holds it, and no `Option`.
+#[tactic(auto, using(crate::proofs::InReach::numbers))]
+fn number<const OP: u32>(a: u32, b: u32) -> u32
+    requires { has_blocks OP ≡ true }
+    ensures { result ≡ refusal_at OP a b }
+{
+    if OP >= RAW {
+        return 0;
+    }
+    match OP {
+        ABS => size_number(a, 0x7fff_ffff),
+        SQRT => root_number(a),
+        INVSQRT => invsqrt_number(a),
+        INV => inv_number(a),
+        ATAN => size_number(a, ATAN_END),
+        ATAN2 | HYPOT => angle_number(a, b),
+        COS => size_number(a, COS_END),
+        SIN => size_number(a, COS_END),
         _ => 0,
     }
 }
 
 // Of sqrt: 1 of an infinity or a NaN, 9 of a small number, 3 of one below 0.
+#[tactic(auto, using(crate::proofs::Numbers::root_number_is))]
 fn root_number(w: u32) -> u32
     ensures { result ≡ refusal_of op_sqrt w 0 }
 {
@@ -191,13 +212,15 @@ fn root_number(w: u32) -> u32
 }
 
 // Of invsqrt: the same, and 2 of a zero.
+#[tactic(auto, using(crate::proofs::Numbers::invsqrt_number_is))]
 fn invsqrt_number(w: u32) -> u32
     ensures { result ≡ refusal_of op_invsqrt w 0 }
 {
-    choice::either(refusal::is_zero(F32(w)), 2, root_number(w))
+    choice::either(F32(w).is_zero(), 2, root_number(w))
 }
 
 // Of inv: 1 of an infinity or a NaN, 2 of a zero, 9 of a small number, 4 past the gate.
+#[tactic(auto, using(crate::proofs::Numbers::inv_number_is))]
 fn inv_number(w: u32) -> u32
     ensures { result ≡ refusal_of op_inv w 0 }
 {
@@ -207,6 +230,7 @@ fn inv_number(w: u32) -> u32
 }
 
 // Of atan2 and hypot: 1 where either is an infinity or a NaN, 4 past the gate.
+#[tactic(auto, using(crate::proofs::Numbers::angle_number_is))]
 fn angle_number(y: u32, x: u32) -> u32
     ensures { result ≡ refusal_of op_atan2 y x }
 {
@@ -239,34 +263,26 @@ fn size_number(w: u32, limit: u32) -> u32
     choice::either(size >= F32::INFINITY.0, 1, outside)
 }
 
-// The word that stands beside the refusal.
-pub(crate) fn beside(number: u32, op: u32, a: u32, b: u32) -> u32
-    requires { (has_blocks op ≡ true) × (number ≡ refusal_at op a b) }
-    ensures { result ≡ word_at op a b }
-{
-    choice::either(number == 0, any(op, a, b), 0)
-}
-
 // The word, where there is no refusal.
-fn any(op: u32, a: u32, b: u32) -> u32
-    ensures { has_blocks op ≡ true → refusal_at op a b ≡ 0 → result ≡ word_at op a b }
+#[tactic(auto, using(crate::proofs::InReach::words))]
+fn any<const OP: u32>(a: u32, b: u32) -> u32
+    ensures { has_blocks OP ≡ true → refusal_at OP a b ≡ 0 → result ≡ word_at OP a b }
 {
-    match op {
-        0x06 => bits(0x06, a),
-        0x09 => root(a),
-        0x89 => F32(a).sqrt().0,
-        0x0a => bits(0x0a, a),
-        0x0b => bits(0x0b, a),
-        0x11 => atan::of_any(a),
-        0x91 => atan::of_any(a),
-        0x12 => guarded_angle(a, b),
-        0x92 => angle::of_any(a, b),
-        0x13 => cosine::cos(within(a)),
-        0x93 => raw_cos(a),
-        0x14 => cosine::sin(within(a)),
-        0x94 => raw_sin(a),
-        0x15 => guarded_hypot(a, b),
-        0x95 => hypot::of_any(a, b),
+    match OP {
+        ABS => F32(a).abs().0,
+        SQRT => root(a),
+        RAW_SQRT => F32(a).sqrt().0,
+        INVSQRT => F32(a).invsqrt().0,
+        INV => F32(a).inv().0,
+        ATAN | RAW_ATAN => atan::of_any(a),
+        ATAN2 => guarded_angle(a, b),
+        RAW_ATAN2 => angle::of_any(a, b),
+        COS => cosine::cos(within(a)),
+        RAW_COS => raw_cos(a),
+        SIN => cosine::sin(within(a)),
+        RAW_SIN => raw_sin(a),
+        HYPOT => guarded_hypot(a, b),
+        RAW_HYPOT => hypot::of_any(a, b),
         _ => 0,
     }
 }
@@ -275,7 +291,7 @@ fn any(op: u32, a: u32, b: u32) -> u32
 fn root(w: u32) -> u32
     ensures { result ≡ cond (is_zero binary32 w) w (half_word w) }
 {
-    choice::either(refusal::is_zero(F32(w)), w, half(w))
+    choice::either(F32(w).is_zero(), w, half(w))
 }
 
 // atan2 within its gate; past it that of 0 and 1.

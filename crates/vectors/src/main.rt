@@ -1,4 +1,5 @@
-// The same run, over the list of frames whose answers the comparison has made.
+// The same run as that of `frames`, over the list of frames whose answers the comparison has made: a
+// program of its own, since each has its own recorded input.
 #![tactic(auto)]
 
 use pipe::Fault;

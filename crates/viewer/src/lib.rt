@@ -1,10 +1,11 @@
 // The row on screen: columns of the scanned row or of the retouched one, lent back without a copy.
 #![tactic(auto)]
 
-ghost use Rattle.std.specs.Prelude.{◌≡◌, cond, length};
+ghost use Rattle.std.specs.Prelude.{◌≡◌, length};
 ghost use Rattle.viewer.specs.View.{span_of, viewed, place_in};
 
-// Which row a part is of, and its columns: the first is in it and the last is not.
+// Which row a part is of, by the flag that C has for it, and its columns: the first is in it and the
+// last is not.
 #[derive(Clone, Copy)]
 pub struct Part {
     pub retouched: bool,
@@ -24,29 +25,20 @@ const NOTHING: Part = Part {
 pub fn span(scan: usize, retouch: usize, retouched: bool, from: usize, to: usize) -> Part
     ensures { result ≡ span_of scan retouch retouched from to }
 {
-    let length = length_of(scan, retouch, retouched);
-    if (from <= to) & (to <= length) {
-        return Part {
+    let length = if retouched { retouch } else { scan };
+    if from <= to && to <= length {
+        Part {
             retouched,
             from,
             to,
-        };
+        }
+    } else {
+        NOTHING
     }
-    NOTHING
-}
-
-// The length of the row chosen.
-fn length_of(scan: usize, retouch: usize, retouched: bool) -> usize
-    ensures { result ≡ cond retouched retouch scan }
-{
-    if retouched {
-        return retouch;
-    }
-    scan
 }
 
 // Lends that part itself, in the row's own memory. The empty part of a refused call begins where the
-// scanned row does.
+// scanned row does. It is a range of the row by index, since `get` does not promise the place.
 pub fn columns<'a>(
     scan: &'a [u32],
     retouch: &'a [u32],
@@ -58,10 +50,6 @@ pub fn columns<'a>(
     ensures place { result.ref_ptr ≡ place_in scan.entry retouch.entry (span_of (length scan.now) (length retouch.now) retouched from to) }
 {
     let part = span(scan.len(), retouch.len(), retouched, from, to);
-    let first = part.from;
-    let last = part.to;
-    if part.retouched {
-        return &retouch[first..last];
-    }
-    &scan[first..last]
+    let row = if part.retouched { retouch } else { scan };
+    &row[part.from..part.to]
 }

@@ -1,11 +1,13 @@
--- Each turn has twice the digits, a place further down.
+-- The digits moved up are no more than a word holds.
 use Rattle.std.proofs.Common.{arith}
-use Rattle.float.proofs.LeftOf.{one_down}
+use Rattle.float.proofs.LeftOf.{zeros_lead, written}
 use Rattle.float.proofs.remainder.written.Goals as goal
 
-pub loop-d-preserved : goal.loop-d-preserved
-loop-d-preserved c = record {
-  few = omega arith;
-  low = omega arith;
-  value = one_down _ _ _ (omega arith) c.loop-d.invariant.value;
-}
+pub overflow_sub-digits : goal.overflow_sub-digits
+overflow_sub-digits c = zeros_lead c.args.digits (omega arith) c.requires.few
+
+pub overflow_add-result : goal.overflow_add-result
+overflow_add-result c = let w = written _ _ _ (omega arith) c.requires.few c.requires.low c.min-up.ensures in record { fits = omega (arith, w.below) }
+
+pub returns : goal.returns
+returns c = let w = written _ _ _ (omega arith) c.requires.few c.requires.low c.min-up.ensures in record { below = w.below; value = w.value }

@@ -1,4 +1,0 @@
--- What belongs to no one function.
-pub mod Chunk
-mod InTurn
-pub mod Written

@@ -1,7 +1,0 @@
--- `guard::refusal::is_small_refused` meets its contract. Assumes nothing.
-use borrow.Author.Rules.{rules}
-use Rattle.guard.proofs.refusal.is_small_refused.Statement.{statement}
-use Rattle.guard.proofs.refusal.is_small_refused.Tie as tie
-
-pub is_small_refused_spec : {M : Type 1} → statement M
-is_small_refused_spec = tie.close (tie.spec (λ c κs. search rules) (λ c κs. search rules) (λ c. rw (c.before.refuses_zero.ensures, c.is_small.ensures)))

@@ -1,0 +1,3 @@
+-- The number of each refusal, and what a call gives that may be refused.
+pub mod Numbers
+pub mod Given
