@@ -148,7 +148,8 @@ fn place(op: u32, operands: u32, a: u32, b: u32) -> (u32, u32)
     requires { operands ≡ operands_in op }
     ensures { (result.0 ≡ word_at op a b) × (result.1 ≡ refusal_at op a b) }
 {
-    let words = words::packed_answer(op, a, used(operands, b));
+    // not by the packed call, so that with a number written out the kernel is in the loop
+    let words = words::packed(words::answer(op, a, used(operands, b)));
     ((words % 0x1_0000_0000) as u32, (words >> 32) as u32)
 }
 
