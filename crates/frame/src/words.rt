@@ -25,7 +25,7 @@ pub fn answer(op: u32, a: u32, b: u32) -> Result<u32, Refusal>
 }
 
 // The same, packed: a Result comes back through memory, and this in a register, which the calls for C
-// and the strips count on.
+// and the lines count on.
 #[inline(never)]
 pub fn packed_answer(op: u32, a: u32, b: u32) -> u64
     ensures { result ≡ words_of op a b }
