@@ -10,7 +10,7 @@ use Rattle.guard.specs.Refusals.{refusal_of}
 use Rattle.frame.specs.Words.{word_beside}
 use Rattle.frame.specs.Frame.{returned, left}
 use Rattle.frame.proofs.OneAnswer.{seen}
-use Rattle.recipe.proofs.OneAnswer.{one_words}
+use Rattle.recipe.proofs.Entries.{one_words}
 use Rattle.strip.proofs.OneAnswer as strip
 use Rattle.grain.specs.declared.Grain.{Grain}
 use Rattle.grain.specs.Grain.{offered, Leaves}

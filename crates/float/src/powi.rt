@@ -15,16 +15,17 @@ pub struct Counted {
 }
 
 impl F32 {
-    // Where the power is the least integer, whose magnitude is no integer, the answer is a NaN.
+    // Where the power is the least integer, whose magnitude is no integer, the answer is a NaN. Inlined it
+    // makes the calls by number longer, those of the other operations too; and a caller that counts nothing
+    // has a loop that counts nothing.
+    #[inline(never)]
     pub fn powi(self, n: i32) -> F32
         ensures { result.0 ≡ powi_word self.0 n }
     {
         self.powi_counted(n).number
     }
 
-    // The same, and how many products it took: none where the answer is given early. Inlined it makes
-    // the calls by number longer, those of the other operations too.
-    #[inline(never)]
+    // The same, and how many products it took: none where the answer is given early.
     pub fn powi_counted(self, n: i32) -> Counted
         ensures number { result.number.0 ≡ powi_word self.0 n }
         ensures products { result.products ≡ products_of self.0 n }

@@ -16,6 +16,7 @@ use Rattle.frame.proofs.words.kernel_number.Reads as words_kernel_number_reads
 use Rattle.frame.proofs.words.packed.Reads as words_packed_reads
 use Rattle.frame.proofs.words.packed_answer.Reads as words_packed_answer_reads
 use Rattle.frame.proofs.words.of_answer.Reads as words_of_answer_reads
+use Rattle.frame.proofs.words.unpacked.Reads as words_unpacked_reads
 use Rattle.frame.proofs.digit.Reads as digit_reads
 use Rattle.frame.proofs.of_line.Reads as of_line_reads
 use Rattle.frame.proofs.answer_number.Reads as answer_number_reads
@@ -33,6 +34,9 @@ words_packed_answer κs = pinned _ (λ a r x p. p)
 
 pub words_packed : (κs : Lfts 0) → OneAnswer (words_packed_reads.Post κs) (λ r x. r)
 words_packed κs = pinned _ (λ a r x p. p)
+
+pub words_unpacked : (κs : Lfts 0) → OneAnswer (words_unpacked_reads.Post κs) (λ r x. r)
+words_unpacked κs = pinned _ (λ a r x p. p)
 
 pub words_of_answer : (κs : Lfts 0) → OneAnswer (words_of_answer_reads.Post κs) (λ r x. r)
 words_of_answer κs = pinned _ (λ a r x p. p)

@@ -1,13 +1,13 @@
 // An operation by its number, raw or guarded, on two words: the word that it gives, or why there is
 // none; and the same packed, the refusal in the high 32 bits and the word in the low 32.
-ghost use Rattle.std.specs.Prelude.{◌≡◌};
+ghost use Rattle.std.specs.Prelude.{◌≡◌, ◌/◌, ◌%◌, ◌^◌};
 ghost use Rattle.std.specs.Result.{result_unwrap_or};
-ghost use Rattle.refusals.specs.Given.{refusal_given};
+ghost use Rattle.refusals.specs.Given.{refusal_given, given};
 ghost use Rattle.guard.specs.Guarded.{word_of};
 ghost use Rattle.frame.specs.Words.{packed, kernel_number, shape_of, words_of, Unpacks};
 
 use float::F32;
-use guard::Answer;
+use guard::{Answer, Value};
 use refusals::Refusal;
 
 // An operation that is not there is refused with 6, a second word that the operation does not use
@@ -20,12 +20,15 @@ pub fn answer(op: u32, a: u32, b: u32) -> Result<u32, Refusal>
     if op >= RAW {
         return Ok(raw::answer(op - RAW, a, b));
     }
-    let value = guard::call(op, a, b)?;
-    Ok(F32::of(value.number).0)
+    // the number alone is taken: with the count beside it a caller waits for both
+    match guard::call(op, a, b) {
+        Ok(Value { number, .. }) => Ok(F32::of(number).0),
+        Err(refusal) => Err(refusal),
+    }
 }
 
-// The same, packed: a Result comes back through memory, and this in a register, which the calls for C
-// and the lines count on.
+// The same, packed: a Result comes back through memory, and this in a register, which the calls for C,
+// the lines and recipes count on. It alone has all kernels, so that they are compiled into it.
 #[inline(never)]
 pub fn packed_answer(op: u32, a: u32, b: u32) -> u64
     ensures { result ≡ words_of op a b }
@@ -69,6 +72,17 @@ pub fn packed(answer: Result<u32, Refusal>) -> u64
         Ok(word) => word as u64,
         Err(refusal) => refused(refusal.into()),
     }
+}
+
+// What is packed, taken apart again.
+pub fn unpacked(words: u64) -> Result<u32, Refusal>
+    ensures { result ≡ given (words / 2 ^ 32) (words % 2 ^ 32) }
+{
+    let refusal = (words >> 32) as u32;
+    if refusal != 0 {
+        return Err(refusals::numbered(refusal));
+    }
+    Ok((words % 0x1_0000_0000) as u32)
 }
 
 // A refusal by its number.

@@ -1,6 +1,6 @@
 -- trunc and fract together: the refusal that they share, or two words that are no NaN and have their meanings. Assumes nothing.
 use Prim.Native.Nat.{ℕ, ◌^◌, ◌<◌}
-use mathlib.Core.Path.{◌≡◌, sym, ap, subst, ◌∙◌}
+use mathlib.Core.Path.{◌≡◌, refl, sym, ap, subst, ◌∙◌}
 use mathlib.Core.Bool.{false}
 use borrow.Author.Tests.{ne_eqb}
 use lib.Ieee.{binary32, of_bits, to_bits, nan_bits}
@@ -36,9 +36,9 @@ module _ (w : ℕ) (w_lt : w < 2 ^ 32) (none : refusal_of op_trunc w 0 ≡ 0) wh
   rest : (t : ℕ) → t < 2 ^ 32 → t ≡ fract_word binary32 w → to_bits binary32 (of_bits binary32 t) ≡ fract_word binary32 w
   rest t h e = kept_word binary32 t h (rw e (fract_number w inside)) ∙ e
 
-  pub both_answered : (t s : ℕ) → t < 2 ^ 32 → s < 2 ^ 32 → t ≡ trunc_word binary32 w → s ≡ fract_word binary32 w → Both w (Ok (record { whole = of_bits binary32 t; rest = of_bits binary32 s }))
+  pub both_answered : (t s : ℕ) → t < 2 ^ 32 → s < 2 ^ 32 → t ≡ trunc_word binary32 w → s ≡ fract_word binary32 w → Both w (Ok (record { whole = of_bits binary32 t; rest = of_bits binary32 s; products = 0 }))
   both_answered t s h k e d = (
-    record { answer = rw (none, e, d); refusal = sym none; word = rw none (whole t h e); second = rw none (rest s k d) },
+    record { answer = rw (none, e, d); refusal = sym none; word = rw none (whole t h e); second = rw none (rest s k d); count = refl },
     ((λ z. rw (whole t h e) (trunc_under binary32 w w_lt inside)), (λ z. rw (rest s k d) (fract_under binary32 w inside))),
   )
 
@@ -46,7 +46,7 @@ module _ (w : ℕ) (w_lt : w < 2 ^ 32) (none : refusal_of op_trunc w 0 ≡ 0) wh
 
 module _ (w : ℕ) (r : Result WholeAndRest Refusal) (g : GivesParts w r) where
   abbrev both : WholeAndRest
-  both = record { whole = of_bits binary32 (trunc_word binary32 w); rest = of_bits binary32 (fract_word binary32 w) }
+  both = record { whole = of_bits binary32 (trunc_word binary32 w); rest = of_bits binary32 (fract_word binary32 w); products = 0 }
 
   no_refusal : Answered r → refusal_of op_trunc w 0 ≡ 0
   no_refusal h = given_none (refusal_of op_trunc w 0) both (subst Answered g.answer h)

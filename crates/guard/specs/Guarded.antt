@@ -40,6 +40,10 @@ abbrev pub rest_of : Result WholeAndRest Refusal → ℕ
 rest_of (Ok p) = to_bits binary32 p.rest
 rest_of (Err r) = 0
 
+abbrev pub products_in_parts : Result WholeAndRest Refusal → ℕ
+products_in_parts (Ok p) = p.products
+products_in_parts (Err r) = 0
+
 -- ---- what each call answers
 
 -- the number whose word is w, for which p products were formed
@@ -92,7 +96,8 @@ GuardsByNumber op a b r = GivesAfter (products_at op a b) (refusal_by_number op 
 
 -- trunc and fract together, behind the gate that they share
 pub record GivesParts (w : ℕ) (r : Result WholeAndRest Refusal) : Type 0 where
-  pub answer : r ≡ given (refusal_of op_trunc w 0) (record { whole = of_bits binary32 (trunc_word binary32 w); rest = of_bits binary32 (fract_word binary32 w) })
+  pub answer : r ≡ given (refusal_of op_trunc w 0) (record { whole = of_bits binary32 (trunc_word binary32 w); rest = of_bits binary32 (fract_word binary32 w); products = 0 })
   pub refusal : refusal_given r ≡ refusal_of op_trunc w 0
   pub word : whole_of r ≡ cond (eqb (refusal_of op_trunc w 0) 0) (trunc_word binary32 w) 0
   pub second : rest_of r ≡ cond (eqb (refusal_of op_trunc w 0) 0) (fract_word binary32 w) 0
+  pub count : products_in_parts r ≡ 0

@@ -47,11 +47,12 @@ impl Value {
     }
 }
 
-// The two numbers that trunc and fract give together.
+// The two numbers that trunc and fract give together, and their count of products, as of a number.
 #[derive(Clone, Copy)]
 pub struct WholeAndRest {
     pub whole: f32,
     pub rest: f32,
+    pub products: u32,
 }
 
 // The answer's word. A refusal's is 0.
@@ -189,7 +190,8 @@ pub fn ln(x: F32) -> Answer
 }
 
 // With the products that it took: none for the power 0 or where it gives up early, else one at least
-// and 39 at most.
+// and 39 at most. The calls by number are quicker where it is not compiled into them.
+#[inline(never)]
 pub fn powi(x: F32, n: i32) -> Answer
     ensures { Guards op_powi x.0 (of_z w32 n) result }
 {
@@ -296,6 +298,7 @@ pub fn parts(operand: F32) -> Result<WholeAndRest, Refusal>
     Ok(WholeAndRest {
         whole: operand.trunc().value(),
         rest: operand.fract().value(),
+        products: 0, // of two parts
     })
 }
 

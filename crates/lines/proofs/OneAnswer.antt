@@ -12,16 +12,20 @@ use mathlib.Core.List.{List, ◌++◌}
 use lib.Dec.{ltb}
 use lib.ListN.{length, drop}
 use Rattle.format.proofs.Pinned.{OneAnswer, pinned}
-use Rattle.frame.specs.Frame.{answer_bytes}
+use Rattle.frame.specs.Frame.{answer_bytes, left_with}
 use Rattle.lines.specs.declared.Held.{Held}
 use Rattle.lines.specs.declared.Fed.{Fed}
 use Rattle.lines.specs.Held.{Lines, after, front, answers_from, last_answer, Feeds, Finishes}
 use Rattle.lines.specs.declared.Answers.{Ghosts}
+use Rattle.lines.proofs.FramesAnswersKEPT.answer.Reads as frames_answer_reads
 use Rattle.lines.proofs.Held.new.Reads as new_reads
 use Rattle.lines.proofs.Held.feed_to.Reads as feed_to_reads
 use Rattle.lines.proofs.Held.finish_to.Reads as finish_to_reads
 use Rattle.lines.proofs.Lines.feed.Reads as feed_reads
 use Rattle.lines.proofs.Lines.finish.Reads as finish_reads
+
+pub frames_answer : (κs : Lfts 2) → OneAnswer (frames_answer_reads.Post κs) (λ r x. x.1.0.now)
+frames_answer κs = pinned (λ a. left_with (answer_bytes a.0.now) a.1.0.now) (λ a r x p. p)
 
 pub held_new : (n : ℕ) (u : Fits w64 n) (κs : Lfts 1) → OneAnswer (new_reads.Post n u κs) (λ r x. r)
 held_new n u κs = pinned _ (λ a r x p. p)

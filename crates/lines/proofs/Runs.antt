@@ -5,7 +5,7 @@ use Prim.Native.Nat.{ℕ, ◌*◌, ◌≤◌, ◌<◌}
 use native.Mathlib.Omega.{arith}
 use mathlib.Core.Path.{◌≡◌, refl, sym, ap, ◌∙◌}
 use mathlib.Core.List.{List, [], ◌∷◌, ◌++◌}
-use lib.ListN.{length, take, drop, length-take}
+use lib.ListN.{length, take, drop, length-append, length-take}
 use lib.Seq.{take_at, take-nil}
 use Rattle.lines.specs.declared.Held.{Held}
 use Rattle.lines.specs.Lines.{lines_of, answers, answers_of, completed, pending, last_line, answers_over, joined}
@@ -37,6 +37,14 @@ module _ {n : ℕ} {f : List ℕ → List ℕ} (a : Answering n f) where
       begun : (l : List ℕ) → 0 < length l → last_line l ≡ l ∷ []
       begun [] m = absurd (let z : ⊥ = omega arith in z)
       begun (c ∷ cs) m = refl
+
+  -- what finish writes, where it has room: the last answer, of eleven bytes at the most
+  pub last_length : (s : Held n) → length (last_answer f s) ≤ 11
+  last_length s = one (line_of s)
+    where
+      one : (l : List ℕ) → length (answers f (last_line l)) ≤ 11
+      one [] = omega arith
+      one (b ∷ bs) = omega (arith, length-append (f (b ∷ bs)) [], a.each (b ∷ bs))
 
   -- ---- a whole run
 

@@ -5,7 +5,7 @@
 ghost use Rattle.std.specs.Prelude.{ℕ, List, ◌≡◌};
 ghost use Rattle.frame.specs.Frame.{answer_bytes, left_with};
 ghost use Rattle.lines.specs.Answering.{Answering};
-ghost use Rattle.lines.specs.Held.{line_of, fresh, pushed, ended, Feeds, Finishes};
+ghost use Rattle.lines.specs.Held.{line_of, fresh, Feeds, Finishes};
 ghost use Rattle.lines.specs.Enough.{frames_answering};
 
 // What answers a line, by eleven bytes, for which the line's first N bytes are enough. They are
@@ -55,42 +55,30 @@ impl<const N: usize> Held<N> {
         self.held.get(..self.count).unwrap_or(&self.held)
     }
 
-    // One byte more of the line.
-    fn push(&mut self, b: u8)
-        ensures { self.new ≡ pushed self.old b }
-    {
-        if self.count < N {
-            self.held[self.count] = b;
-            self.count += 1;
-        }
-    }
-
-    // No byte of the next line yet.
-    fn clear(&mut self)
-        ensures { self.new ≡ ended self.old }
-    {
-        self.count = 0;
-    }
-
     // Reads a chunk and answers each line that ends in it. It stops before a newline whose answer
     // has no room in the space; the rest of the chunk is then fed again with the space emptied.
     pub fn feed_to<A: Answers<N>>(&mut self, chunk: &[u8], space: &mut [u8]) -> Part
         ensures { Feeds A.bytes self.old chunk.now space.old self.new result.read result.written space.new }
     {
+        // beside the loop, since in memory each byte would wait for the one before it
+        let mut count = self.count;
         let mut written: usize = 0;
         for (read, b) in chunk.iter().enumerate() {
             if *b == b'\n' {
+                self.count = count;
                 let full = space.len() - written < ANSWER;
                 if full {
                     return Part { read, written };
                 }
                 A::answer(self.line(), &mut space[written..]);
                 written += ANSWER;
-                self.clear();
-            } else {
-                self.push(*b);
+                count = 0;
+            } else if count < N {
+                self.held[count] = *b;
+                count += 1;
             }
         }
+        self.count = count;
         Part {
             read: chunk.len(),
             written,

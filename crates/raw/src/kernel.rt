@@ -96,6 +96,7 @@ impl Kernel {
 
     // Its answer to two words. One of one operand does not look at the second; powi's power is the
     // second word in two's complement.
+    #[inline(always)]
     pub fn answer(self, a: F32, b: F32) -> F32
         ensures { result.0 ≡ raw_of (kernel_of (number_of self)) a.0 b.0 }
     {

@@ -22,6 +22,7 @@ pub fn operands(number: u32) -> u32
 }
 
 // The kernel's answer to two words, and 0 where the number has no kernel.
+#[inline(always)]
 pub fn answer(number: u32, a: u32, b: u32) -> u32
     ensures { result ≡ raw_of (kernel_of number) a b }
 {

@@ -1,10 +1,10 @@
 -- An entry by what stands at its front. Of an entry the first 250 bytes are enough: eight digits, a blank, and one byte more than a
--- recipe has. Assumes nothing.
+-- recipe has. And an entry has one answer. Assumes nothing.
 use Prim.Native.Nat.{ℕ, zero, suc, ◌+◌, ◌≤◌, ◌<◌}
 use native.Mathlib.Nat.{le_of_suc-le-suc}
 use native.Mathlib.Omega.{arith}
 use mathlib.Core.Path.{◌≡◌, refl, sym, ap, subst, ◌∙◌}
-use mathlib.Core.Bool.{Bool, true, ◌&&◌, false≢true}
+use mathlib.Core.Bool.{Bool, true, false, ◌&&◌, false≢true}
 use mathlib.Core.Logic.{◌⊎◌, inl, inr}
 use mathlib.Core.List.{List, [], ◌∷◌}
 use lib.Dec.{eqb}
@@ -21,7 +21,7 @@ use Rattle.recipe.specs.Begins.{digits, begins}
 use Rattle.recipe.specs.Answers.{Answers, AnswersWords}
 use Rattle.recipe.specs.Entry.{is_entry, AnswersEntry}
 use Rattle.recipe.proofs.Fronts.{first_is, begins_is}
-use Rattle.recipe.proofs.Answers.{too_long}
+use Rattle.recipe.proofs.Answers.{too_long, one_answer}
 
 -- ---- an entry by what stands at its front
 
@@ -63,3 +63,16 @@ first_bytes p w a = by (either (length p) 250)
         long v =
             let k : 240 < length (drop 9 (take 250 p)) = rw (length-drop, length-take) (omega arith) in
             record { answer = v.answer; answers = too_long (drop 9 p) _ v.answer (rw length-drop (omega arith)) (v.answers.long k); words = v.words }
+
+-- ---- an entry has one answer
+
+pub one_words : (line : List ℕ) (x : Float) (v w : ℕ) → AnswersWords line x v → AnswersWords line x w → v ≡ w
+one_words line x v w a b =
+    a.words ∙ ap (λ (r : Answer). packed (refusal_given r) (word_of r)) (one_answer line x a.answer b.answer a.answers b.answers) ∙ sym b.words
+
+pub one_entry : (line : List ℕ) (v w : ℕ) → AnswersEntry line v → AnswersEntry line w → v ≡ w
+one_entry line v w a b = go (is_entry line) refl
+  where
+    go : (t : Bool) → is_entry line ≡ t → v ≡ w
+    go true e = one_words _ _ v w (a.worked e) (b.worked e)
+    go false e = a.malformed e ∙ sym (b.malformed e)

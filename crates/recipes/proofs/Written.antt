@@ -1,8 +1,8 @@
 -- The answers that `pipe` writes are answers to entries. Assumes nothing.
 use Prim.Native.Nat.{ℕ}
 use native.Mathlib.Omega.{arith}
-use mathlib.Core.Path.{◌≡◌, refl, ap}
-use mathlib.Core.List.{List, [], ◌∷◌}
+use mathlib.Core.Path.{◌≡◌, refl, sym, ap, ◌∙◌}
+use mathlib.Core.List.{List, [], ◌∷◌, ◌++◌}
 use lib.ListN.{length, take}
 use lib.Seq.{take_all}
 use Rattle.std.specs.Prelude.{Option, Some, None, IfSome, Result, Ok, Err, IfOk}
@@ -11,24 +11,25 @@ use Rattle.frame.specs.Frame.{words_bytes}
 use Rattle.lines.specs.Lines.{lines_of, answers, answers_of}
 use Rattle.pipe.specs.Known.{AppendsFront}
 use Rattle.recipe.specs.Entry.{AnswersEntry}
-use Rattle.recipe.proofs.Entries.{first_bytes}
-use Rattle.recipe.proofs.OneAnswer.{one_entry}
-use Rattle.recipes.specs.Entries.{some_entry, entry_bytes}
+use Rattle.recipe.proofs.Entries.{one_entry}
+use Rattle.lines.specs.Held.{line_of}
+use Rattle.recipes.specs.Entries.{some_entry, entry_bytes, entries}
+use Rattle.recipes.proofs.Holding.{enough, holding, holds, tells}
 use Rattle.recipes.specs.Written.{AreAnswers, Adds, AddsFirst}
 
--- the first 250 bytes of a line have its answer
-first : (line : List ℕ) → AnswersEntry line (some_entry (take 250 line)).0
-first line = first_bytes line _ (some_entry (take 250 line)).1
-
--- and it is the line's one answer
+-- a line has one answer
 pub bytes_of : (line : List ℕ) (w : ℕ) → AnswersEntry line w → words_bytes w ≡ entry_bytes line
 unfolding entry_bytes
-bytes_of line w a = ap words_bytes (one_entry line w (some_entry (take 250 line)).0 a (first line))
+bytes_of line w a = ap words_bytes (one_entry line w (some_entry line).0 a (some_entry line).1)
 
+-- what is written for what is held of a line answers the line
 are_answers : (ls : List (List ℕ)) → AreAnswers ls (answers entry_bytes ls)
-unfolding entry_bytes
 are_answers [] = refl
-are_answers (l ∷ ls) = ((some_entry (take 250 l)).0, answers entry_bytes ls, first l, refl, are_answers ls)
+are_answers (l ∷ ls) =
+    let s = holding l in
+    let e = enough l (entry_bytes (line_of s)) s (holds l) (tells s) in
+    let same : entry_bytes l ≡ words_bytes e.0 = sym (entries.enough l) ∙ sym (ap entry_bytes (holds l).line) ∙ e.2 in
+    (e.0, answers entry_bytes ls, e.1, ap (λ (b : List ℕ). b ++ answers entry_bytes ls) same, are_answers ls)
 
 adds : (left held held' : Option (List ℕ)) → IfSome left (λ bytes. Appends held held' (answers_of entry_bytes bytes))
     → IfSome left (λ bytes. Adds (lines_of bytes) held held')

@@ -4,8 +4,7 @@ use native.Mathlib.Omega.{arith}
 use mathlib.Core.Path.{◌≡◌, refl, sym, ap, ◌∙◌}
 use mathlib.Core.Bool.{Bool, true, false, false≢true}
 use mathlib.Core.List.{List, [], ◌∷◌}
-use lib.ListN.{length, take, drop, length-append, length-take}
-use lib.Seq.{take_all}
+use lib.ListN.{length, take, drop, length-append}
 use lib.Ieee.{Float, binary32, of_bits}
 use Rattle.guard.specs.Guarded.{Answer}
 use Rattle.refusals.specs.Given.{given}
@@ -18,6 +17,7 @@ use Rattle.recipe.specs.Answers.{Answers}
 use Rattle.recipe.specs.Entry.{is_entry, AnswersEntry}
 use Rattle.recipe.proofs.Answers.{Standing, long, deep, outside, read, standing, too_long, too_deep, not_grammar}
 use Rattle.recipe.proofs.Readings.{one_reading}
+use Rattle.recipe.proofs.Entries.{first_bytes, one_entry}
 
 -- a recipe has an answer at any x
 some_answer : (line : List ℕ) (x : Float) → (r : Answer) × Answers line x r
@@ -50,16 +50,16 @@ some_entry line = go (is_entry line) refl
 words_length : (w : ℕ) → length (words_bytes w) ≡ 11
 words_length w = length-append (hex_bytes 10 w) (10 ∷ []) ∙ ap (λ (n : ℕ). n + 1) (hex_length 10 w)
 
--- the answer to the first 250 bytes of a line, which is the line's
+-- the answer to a line
 unfoldable pub entry_bytes : List ℕ → List ℕ
-entry_bytes line = words_bytes (some_entry (take 250 line)).0
+entry_bytes line = words_bytes (some_entry line).0
 
 pub entries : Answering 250 entry_bytes
 unfolding entry_bytes
 entries = record {
   some = omega arith;
-  each = λ l. words_length (some_entry (take 250 l)).0;
-  enough = λ l. ap (λ (k : List ℕ). words_bytes (some_entry k).0) (take_all 250 (take 250 l) (omega (arith, length-take 250 l)));
+  each = λ l. words_length (some_entry l).0;
+  enough = λ l. ap words_bytes (one_entry l (some_entry (take 250 l)).0 (some_entry l).0 (first_bytes l _ (some_entry (take 250 l)).1) (some_entry l).1);
 }
 
 -- answers are written one by one

@@ -2,7 +2,7 @@
 #![tactic(auto)]
 
 ghost use Rattle.std.specs.Prelude.{◌≡◌};
-ghost use Rattle.refusals.specs.Numbers.{number_of};
+ghost use Rattle.refusals.specs.Numbers.{number_of, numbered};
 ghost use Rattle.refusals.specs.Given.{refusal_given};
 
 // In the order of their numbers, from 1.
@@ -47,6 +47,29 @@ impl From<Refusal> for u32 {
             Refusal::TooDeep => 14,
             Refusal::NotARecipe => 15,
         }
+    }
+}
+
+// The refusal of a number. Any that is not from 1 to 15 has the last.
+pub fn numbered(number: u32) -> Refusal
+    ensures { result ≡ numbered number }
+{
+    match number {
+        1 => Refusal::NotFinite,
+        2 => Refusal::Zero,
+        3 => Refusal::Negative,
+        4 => Refusal::Outside,
+        5 => Refusal::PowerOutside,
+        6 => Refusal::NoSuchOperation,
+        7 => Refusal::Malformed,
+        8 => Refusal::NoRoom,
+        9 => Refusal::Small,
+        10 => Refusal::Lengths,
+        11 => Refusal::Full,
+        12 => Refusal::WornOut,
+        13 => Refusal::TooLong,
+        14 => Refusal::TooDeep,
+        _ => Refusal::NotARecipe,
     }
 }
 

@@ -29,6 +29,12 @@ module _ (x count : ℕ) (C : count < 64) where
   pub rest_is : bit_and x (1 * 2 ^ count % 2 ^ 64 - 1) ≡ x % 2 ^ count
   rest_is = ap (λ (u : ℕ). bit_and x (u - 1)) unit_is ∙ and_mask x count
 
+-- a half, and one more, fits as well
+pub half_fits : (x n : ℕ) → 0 < n → x < 2 ^ 64 → x / 2 ^ n + 1 < 2 ^ 64
+half_fits x n N h =
+    let a : x / 2 ^ n < 2 ^ 63 = (div-lt_iff_lt-mul (pow_pos n)).1 (lt_of_lt_of_le h (le_trans (le_of_eq (pow-add 2 63 1)) (le_trans (le_of_eq (mul_comm (2 ^ 63) (2 ^ 1))) (subst (λ (z : ℕ). 2 ^ 1 * 2 ^ 63 ≤ z) (mul_comm (2 ^ n) (2 ^ 63)) (mul-le-mul_right (2 ^ 63) (pow_mono N)))))) in
+    omega (arith, a)
+
 module _ (x u : ℕ) (U : 0 < u) where
   pub closest_low : x % u < u - x % u → closest x u ≡ x / u
   closest_low h = go (compare (x % u * 2) u) (cmp (x % u * 2) u)

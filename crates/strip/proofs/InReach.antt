@@ -359,6 +359,9 @@ pub ruleset words = (abs_answered, root_answered, invsqrt_answered, inv_answered
 
 -- ---- the steps on the word itself, whatever the second word is
 
+pub bits_have_blocks : (op : ℕ) → on_bits op ≡ true → has_blocks op ≡ true
+bits_have_blocks op r = listed (λ n. has_blocks n ≡ true) op stepped r (refl, (refl, (refl, (refl, (refl, tt)))))
+
 pub bits_answered : (op a b : ℕ) → a < 2 ^ 32 → on_bits op ≡ true → reach op a b ≡ true → Answered op a b (bits_word op a)
 bits_answered op a b k r h = alike op r (listed (λ n. reach n a 0 ≡ true → Answered n a 0 (bits_word n a)) op stepped r (absolute, (positive, (unsigned, (inverse, (inverted, tt))))) (same_reach op r h))
   where
