@@ -7,7 +7,7 @@ use mathlib.Core.Path.{◌≡◌, refl, sym, ap, ◌∙◌}
 use mathlib.Core.List.{List, [], ◌∷◌, ◌++◌, append_assoc, append-nil}
 use borrow.Author.Tests.{ne_eqb, lt-ltb, le-ltb}
 use borrow.Rule.Slice.PartMut.{put_mid}
-use lib.ListN.{length, get_or, set, take, drop, length-append, length-drop, take-append-drop, drop_of_length-le}
+use lib.ListN.{length, get_or, take, drop, length-append, length-drop, take-append-drop, drop_of_length-le}
 use lib.Seq.{take_all, drop-cons, drop-drop, take_at, drop_at, length-take-le}
 use Rattle.frame.specs.Frame.{left_with}
 use Rattle.lines.specs.declared.Held.{Held}
@@ -102,7 +102,7 @@ module _ {n : ℕ} {f : List ℕ → List ℕ} (an : Answering n f) (s₀ : Held
       }
 
   -- a byte joins the line
-  byte : read < length chunk → (get_or chunk read 0 ≡ newline → ⊥) → SoFar f s₀ chunk space₀ (pushed s (get_or chunk read 0)) (read + 1) written space
+  pub byte : read < length chunk → (get_or chunk read 0 ≡ newline → ⊥) → SoFar f s₀ chunk space₀ (pushed s (get_or chunk read 0)) (read + 1) written space
   byte more ne =
       let t = todo_byte chunk space₀ read written more ne in
       let k = ne_eqb (get_or chunk read 0) newline ne in
@@ -115,14 +115,6 @@ module _ {n : ℕ} {f : List ℕ → List ℕ} (an : Answering n f) (s₀ : Held
         lines = rw (t, k) at sf.lines;
         bytes = rw (t, k) at sf.bytes;
       }
-
-  -- it is kept, or passed over where the line has its first bytes already
-  pub byte_kept : read < length chunk → (get_or chunk read 0 ≡ newline → ⊥) → s.count < n
-      → SoFar f s₀ chunk space₀ (record { held = set s.held s.count (get_or chunk read 0); count = s.count + 1 }) (read + 1) written space
-  byte_kept more ne h = rw (lt-ltb s.count n h) at (byte more ne)
-
-  pub byte_passed : read < length chunk → (get_or chunk read 0 ≡ newline → ⊥) → n ≤ s.count → SoFar f s₀ chunk space₀ s (read + 1) written space
-  byte_passed more ne h = rw (le-ltb s.count n h) at (byte more ne)
 
   -- nothing is left to read
   module _ (held : length s₀.held ≡ n) where

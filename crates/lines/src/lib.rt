@@ -64,19 +64,21 @@ impl<const N: usize> Held<N> {
         let mut count = self.count;
         let mut written: usize = 0;
         for (read, b) in chunk.iter().enumerate() {
-            if *b == b'\n' {
-                self.count = count;
-                let full = space.len() - written < ANSWER;
-                if full {
-                    return Part { read, written };
+            if *b != b'\n' {
+                if count < N {
+                    self.held[count] = *b;
+                    count += 1;
                 }
-                A::answer(self.line(), &mut space[written..]);
-                written += ANSWER;
-                count = 0;
-            } else if count < N {
-                self.held[count] = *b;
-                count += 1;
+                continue;
             }
+            self.count = count;
+            let full = space.len() - written < ANSWER;
+            if full {
+                return Part { read, written };
+            }
+            A::answer(self.line(), &mut space[written..]);
+            written += ANSWER;
+            count = 0;
         }
         self.count = count;
         Part {
